@@ -1,0 +1,66 @@
+-- What is known of an accepted plan, and when a plan is accepted.
+use Prim.Native.Nat.{ℕ, _*_, _<_, _≤_}
+use mathlib.Core.Path.{_≡_, refl, ap, sym, _∙_}
+use mathlib.Core.Bool.{Bool, true, false, not}
+use mathlib.Core.List.{List}
+use native.Mathlib.Omega.{arith}
+use lib.Dec.{leb}
+use lib.ListN.{length, getD}
+use borrow.Author.Tests.{leb-true, le-leb, eqb-true, eq-eqb, not-false}
+use Rattle.refusal.specs.declared.Verdict.the-variants.{Accepted}
+use Rattle.refusal.proofs.ChainLaws.{refuse-passed}
+use Rattle.plan.specs.Below.{allBelow}
+use Rattle.plan.specs.Lines.{flowOf, rowSum, columnSum, lineSum, isSquare}
+use Rattle.plan.specs.Range.{portsInRange, frameInRange}
+use Rattle.plan.specs.Accept.{withinFrame, acceptOf, IsPlan}
+use Rattle.plan.proofs.BelowLaws.{all-holds, all-intro, all-ext, sum-term}
+use Rattle.plan.proofs.LineLaws.{row-line, column-line}
+use Rattle.plan.proofs.RangeLaws.{ports-range, frame-range, ports-in, frame-in}
+
+pub within-holds : (sum : ℕ → ℕ) (n t : ℕ) → withinFrame sum n t ≡ true → (k : ℕ) → k < n → sum k ≤ t
+within-holds sum n t e k l = leb-true (sum k) t (all-holds (λ m. leb (sum m) t) n e k l)
+
+pub within-intro : (sum : ℕ → ℕ) (n t : ℕ) → ((k : ℕ) → k < n → sum k ≤ t) → withinFrame sum n t ≡ true
+within-intro sum n t h = all-intro (λ m. leb (sum m) t) n (λ k l. le-leb (sum k) t (h k l))
+
+pub rows-within : (rates : List ℕ) (n t : ℕ) → withinFrame (lineSum rates n n 1) n t ≡ withinFrame (rowSum rates n) n t
+rows-within rates n t = all-ext _ _ n (λ k l. ap (λ (s : ℕ). leb s t) (row-line rates n k))
+
+pub columns-within : (rates : List ℕ) (n t : ℕ) → withinFrame (lineSum rates n 1 n) n t ≡ withinFrame (columnSum rates n) n t
+columns-within rates n t = all-ext _ _ n (λ k l. ap (λ (s : ℕ). leb s t) (column-line rates n k))
+
+pub accepted : (n t : ℕ) (rates : List ℕ) → acceptOf n t rates ≡ Accepted → IsPlan n t rates
+unfolding acceptOf
+accepted n t rates e =
+    let first = refuse-passed (not (portsInRange n)) _ _ e in
+    let second = refuse-passed (not (frameInRange t)) _ _ (first .1) in
+    let third = refuse-passed (not (isSquare n rates)) _ _ (second .1) in
+    let fourth = refuse-passed (not (withinFrame (rowSum rates n) n t)) _ _ (third .1) in
+    let fifth = refuse-passed (not (withinFrame (columnSum rates n) n t)) _ _ (fourth .1) in
+    let ports = ports-range n (not-false _ (first .0)) in
+    let frame = frame-range t (not-false _ (second .0)) in
+    record {
+      some-port = ports .0;
+      few-ports = ports .1;
+      some-slot = frame .0;
+      few-slots = frame .1;
+      square = eqb-true (length rates) (n * n) (not-false _ (third .0));
+      rows = within-holds (rowSum rates n) n t (not-false _ (fourth .0));
+      columns = within-holds (columnSum rates n) n t (not-false _ (fifth .0));
+    }
+
+pub accepts : (n t : ℕ) (rates : List ℕ) → IsPlan n t rates → acceptOf n t rates ≡ Accepted
+unfolding acceptOf
+accepts n t rates p =
+    simp (
+      ports-in n (p .some-port) (p .few-ports),
+      frame-in t (p .some-slot) (p .few-slots),
+      eq-eqb (length rates) (n * n) (p .square),
+      within-intro (rowSum rates n) n t (p .rows),
+      within-intro (columnSum rates n) n t (p .columns),
+    )
+
+-- no rate is above t
+pub rate-within : (n t : ℕ) (rates : List ℕ) → IsPlan n t rates → (i j : ℕ) → i < n → j < n → getD rates (flowOf n i j) 0 ≤ t
+unfolding rowSum
+rate-within n t rates p i j hi hj = omega (arith, p .rows i hi, sum-term (λ k. getD rates (flowOf n i k) 0) n j hj)

@@ -1,0 +1,25 @@
+-- What the range tests of N and T say.
+use Prim.Native.Nat.{ℕ, _≤_}
+use mathlib.Core.Path.{_≡_, refl}
+use mathlib.Core.Bool.{Bool, true, false, _&&_}
+use native.Mathlib.Omega.{arith}
+use lib.Dec.{leb}
+use borrow.Author.Tests.{leb-true, le-leb}
+use Rattle.plan.specs.Range.{portsInRange, frameInRange}
+use Rattle.plan.proofs.BelowLaws.{and-true}
+
+pub ports-range : (n : ℕ) → portsInRange n ≡ true → (1 ≤ n) × (n ≤ 16)
+unfolding portsInRange
+ports-range n e = let both = and-true (leb 1 n) (leb n 16) e in (leb-true 1 n (both .0), leb-true n 16 (both .1))
+
+pub frame-range : (t : ℕ) → frameInRange t ≡ true → (1 ≤ t) × (t ≤ 4096)
+unfolding frameInRange
+frame-range t e = let both = and-true (leb 1 t) (leb t 4096) e in (leb-true 1 t (both .0), leb-true t 4096 (both .1))
+
+pub ports-in : (n : ℕ) → 1 ≤ n → n ≤ 16 → portsInRange n ≡ true
+unfolding portsInRange
+ports-in n lo hi = simp (le-leb 1 n lo, le-leb n 16 hi)
+
+pub frame-in : (t : ℕ) → 1 ≤ t → t ≤ 4096 → frameInRange t ≡ true
+unfolding frameInRange
+frame-in t lo hi = simp (le-leb 1 t lo, le-leb t 4096 hi)

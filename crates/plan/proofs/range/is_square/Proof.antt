@@ -1,0 +1,23 @@
+use borrow.Author.Needs.{needs}
+use Prim.Native.Nat.{ℕ, _*_, _<_, _≤_}
+use mathlib.Core.Path.{refl}
+use native.Mathlib.Nat.{mul-le-mul}
+use native.Mathlib.Omega.{arith}
+use borrow.Author.Tests.{ne-eqb}
+use Rattle.plan.proofs.range.is_square.Statement.{statement}
+use Rattle.plan.proofs.range.is_square.Tie as tie
+
+returns : tie.Need-returns
+returns c =
+    let n = c .before .args .n in
+    let wide : 4294967296 * 4294967296 ≤ n * n = mul-le-mul (c .if1 .taken) (c .if1 .taken) in
+    rw (ne-eqb (c .before .args .len) (n * n) (λ e. omega arith)) refl
+
+mul-result : tie.Need-mul-result
+mul-result c = let n = c .before .args .n in omega (arith, mul-le-mul {n₂ = 4294967295} {m₂ = 4294967295} (c .if1 .left) (c .if1 .left))
+
+returns-2 : tie.Need-returns-2
+returns-2 c = search needs
+
+pub is-square-spec : {M : Type 1} → statement M
+is-square-spec = tie.close (tie.spec returns mul-result returns-2)

@@ -1,0 +1,5 @@
+pub mod Below
+pub mod Lines
+pub mod Range
+pub mod Accept
+pub mod Desk

@@ -1,0 +1,29 @@
+-- The number of each refusal, from the scope's table "What is sent back". Only this file and the
+-- function `number` have these numbers; all others use the names.
+use Prim.Native.Nat.{ℕ}
+use Rattle.refusal.specs.declared.Refusal.{Refusal}
+use Rattle.refusal.specs.declared.Refusal.the-variants.{PortsOutOfRange, FrameOutOfRange, ListLength, RowAboveFrame, ColumnAboveFrame, DepthOutOfRange, StoreLength, PlanMismatch, PlanWaits, NoSuchPort, QueueFull, StateInvalid, CrosspointFull, NotPlanFile, FileLength}
+use Rattle.refusal.specs.declared.Verdict.{Verdict}
+use Rattle.refusal.specs.declared.Verdict.the-variants.{Accepted, Refused}
+
+abbrev pub numberOf : Refusal → ℕ
+numberOf PortsOutOfRange = 1
+numberOf FrameOutOfRange = 2
+numberOf ListLength = 3
+numberOf RowAboveFrame = 4
+numberOf ColumnAboveFrame = 5
+numberOf DepthOutOfRange = 6
+numberOf StoreLength = 7
+numberOf PlanMismatch = 8
+numberOf PlanWaits = 9
+numberOf NoSuchPort = 10
+numberOf QueueFull = 11
+numberOf StateInvalid = 12
+numberOf CrosspointFull = 13
+numberOf NotPlanFile = 14
+numberOf FileLength = 15
+
+-- A verdict's number is its refusal's; 0, which the table leaves free, stands for "accepted".
+abbrev pub verdictNumberOf : Verdict → ℕ
+verdictNumberOf Accepted = 0
+verdictNumberOf (Refused r) = numberOf r

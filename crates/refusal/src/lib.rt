@@ -1,0 +1,80 @@
+// Why a call is refused, and the verdict of a call.
+ghost use mathlib.Core.Path.{_≡_};
+ghost use Rattle.refusal.specs.Number.{numberOf, verdictNumberOf};
+
+// A case for each row of the scope's table "What is sent back".
+pub enum Refusal {
+    // N is outside 1 to 16
+    PortsOutOfRange,
+    // T is outside 1 to 4,096
+    FrameOutOfRange,
+    // a rate, demand or output list isn't N x N long
+    ListLength,
+    // a row sum is above T
+    RowAboveFrame,
+    // a column sum is above T
+    ColumnAboveFrame,
+    // Q is outside 1 to 64
+    DepthOutOfRange,
+    // the store isn't N x N x Q long
+    StoreLength,
+    // a loaded plan has another N or T than the running one
+    PlanMismatch,
+    // a plan already waits
+    PlanWaits,
+    // an arrival for a port not below N
+    NoSuchPort,
+    // the flow's queue holds Q cells
+    QueueFull,
+    // the state breaks one of its own rules
+    StateInvalid,
+    // a step would put a third cell in a crosspoint
+    CrosspointFull,
+    // the mark isn't LSP or the version isn't 1
+    NotPlanFile,
+    // the file is under 8 bytes, or isn't 8 + 2 x N x N
+    FileLength,
+}
+
+// What a call answers: it was done, or it was refused for one reason.
+pub enum Verdict {
+    Accepted,
+    Refused(Refusal),
+}
+
+impl Refusal {
+    // The number of a refusal in the scope's table.
+    pub fn number(self) -> u8
+        ensures { λ r. ⌜ r ≡ numberOf self ⌝ }
+    {
+        match self {
+            Refusal::PortsOutOfRange => 1,
+            Refusal::FrameOutOfRange => 2,
+            Refusal::ListLength => 3,
+            Refusal::RowAboveFrame => 4,
+            Refusal::ColumnAboveFrame => 5,
+            Refusal::DepthOutOfRange => 6,
+            Refusal::StoreLength => 7,
+            Refusal::PlanMismatch => 8,
+            Refusal::PlanWaits => 9,
+            Refusal::NoSuchPort => 10,
+            Refusal::QueueFull => 11,
+            Refusal::StateInvalid => 12,
+            Refusal::CrosspointFull => 13,
+            Refusal::NotPlanFile => 14,
+            Refusal::FileLength => 15,
+        }
+    }
+}
+
+impl Verdict {
+    // The number of the refusal, or 0 for a call that was accepted.
+    pub fn number(self) -> u8
+        ensures { λ r. ⌜ r ≡ verdictNumberOf self ⌝ }
+    {
+        match self {
+            Verdict::Accepted => 0,
+            Verdict::Refused(refusal) => refusal.number(),
+        }
+    }
+}
