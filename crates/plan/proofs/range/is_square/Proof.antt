@@ -10,11 +10,12 @@ use Rattle.plan.proofs.range.is_square.Tie as tie
 returns : tie.Need-returns
 returns c =
     let n = c .before .args .n in
-    let wide : 4294967296 * 4294967296 ≤ n * n = mul-le-mul (c .if1 .taken) (c .if1 .taken) in
+    let large : 4294967296 ≤ n = omega (arith, c .if1 .taken) in
+    let wide : 4294967296 * 4294967296 ≤ n * n = mul-le-mul large large in
     rw (ne-eqb (c .before .args .len) (n * n) (λ e. omega arith)) refl
 
 mul-result : tie.Need-mul-result
-mul-result c = let n = c .before .args .n in omega (arith, mul-le-mul {n₂ = 4294967295} {m₂ = 4294967295} (c .if1 .left) (c .if1 .left))
+mul-result c = let n = c .before .args .n in omega (arith, mul-le-mul {n₂ = 4294967295} {m₂ = 4294967295} (omega (arith, c .if1 .left)) (omega (arith, c .if1 .left)))
 
 returns-2 : tie.Need-returns-2
 returns-2 c = search needs
