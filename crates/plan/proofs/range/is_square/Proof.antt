@@ -15,7 +15,10 @@ returns c =
     rw (ne-eqb (c .before .args .len) (n * n) (λ e. omega arith)) refl
 
 mul-result : tie.Need-mul-result
-mul-result c = let n = c .before .args .n in omega (arith, mul-le-mul {n₂ = 4294967295} {m₂ = 4294967295} (omega (arith, c .if1 .left)) (omega (arith, c .if1 .left)))
+mul-result c =
+    let n = c .before .args .n in
+    let small : n ≤ 4294967295 = omega (arith, c .if1 .left) in
+    omega (arith, mul-le-mul small small)
 
 returns-2 : tie.Need-returns-2
 returns-2 c = search needs
