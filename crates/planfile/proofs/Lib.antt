@@ -1,0 +1,3 @@
+pub mod LayoutLaws
+pub mod ReadLaws
+pub mod Examples
