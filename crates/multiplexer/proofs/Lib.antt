@@ -1,0 +1,11 @@
+pub mod RoundLaws
+pub mod SumLaws
+pub mod ListLaws
+pub mod ChoiceLaws
+pub mod CandidateLaws
+pub mod CountLaws
+pub mod PortLaws
+pub mod PaceLaws
+pub mod PacedLaws
+pub mod WindowLaws
+pub mod Examples
