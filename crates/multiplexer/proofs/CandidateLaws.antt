@@ -39,7 +39,8 @@ module _ (c : Candidate) (f a k T t : ℕ) (within : c .deadline ≤ noDeadline)
       (lt-or-le (deadline a k T) (c .deadline)) in
       stays (rw (le-ltb (deadline a k T) (c .deadline) le, and-false (eligible a k T t)) refl)
 
-  pub sooner : 0 < a → k * T ≤ t * a → k * T + T + a ≤ c .deadline * a → (d : ℕ) → d ≡ deadline a k T → Improved c f a k T t (record { choice = Flow f; deadline = d })
+  pub sooner : 0 < a → k * T ≤ t * a → k * T + T + a ≤ c .deadline * a → (d : ℕ) → d ≡ deadline a k T
+      → Improved c f a k T t (record { choice = Flow f; deadline = d })
   unfolding orFlow
   sooner pos may h d e =
       rw e

@@ -56,7 +56,8 @@ module _ (rs ks : List ℕ) (T t : ℕ) where
   due f = deadlineAt rs ks T f
 
   -- one flow more to choose from
-  better-is : (n : ℕ) (c : Choice) (e b : Bool) → may n ≡ e → goesBefore rs ks T n c ≡ b → IsChoice rs ks T t n c → IsChoice rs ks T t (suc n) (better rs ks T t n c)
+  better-is : (n : ℕ) (c : Choice) (e b : Bool) → may n ≡ e → goesBefore rs ks T n c ≡ b → IsChoice rs ks T t n c
+      → IsChoice rs ks T t (suc n) (better rs ks T t n c)
   unfolding better
   better-is n Idle true b he hb none =
       rw he
@@ -147,4 +148,5 @@ module _ (rs ks ks' : List ℕ) (T t n : ℕ) (same : (f : ℕ) → f < n → ge
       }
 
 pub choose-ext : (rs ks ks' : List ℕ) (T t : ℕ) → ((f : ℕ) → f < flowsOf rs → getD ks' f 0 ≡ getD ks f 0) → chooseOf rs ks' T t ≡ chooseOf rs ks T t
-choose-ext rs ks ks' T t same = choose-only rs ks' T t (chooseOf rs ks T t) (is-choice-ext rs ks ks' T t (flowsOf rs) same (chooseOf rs ks T t) (choose-is rs ks T t))
+choose-ext rs ks ks' T t same =
+    choose-only rs ks' T t (chooseOf rs ks T t) (is-choice-ext rs ks ks' T t (flowsOf rs) same (chooseOf rs ks T t) (choose-is rs ks T t))

@@ -63,7 +63,8 @@ unfolding countsAfter
 count-outside ks f h = set-out ks f _ h
 
 -- a flow's count grows by its services
-pub count-services : (ks : List ℕ) (c : Choice) (f : ℕ) → f < length ks → (c ≡ Flow f → getD ks f 0 < 65535) → getD (countsAfter ks c) f 0 ≡ getD ks f 0 + servicesOf c f
+pub count-services : (ks : List ℕ) (c : Choice) (f : ℕ) → f < length ks → (c ≡ Flow f → getD ks f 0 < 65535)
+    → getD (countsAfter ks c) f 0 ≡ getD ks f 0 + servicesOf c f
 count-services ks Idle f l h = omega (arith, ap (λ (l : List ℕ). getD l f 0) (count-idle ks))
 count-services ks (Flow g) f l h = go (ℕ-discrete g f)
   where

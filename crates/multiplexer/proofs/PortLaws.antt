@@ -39,8 +39,14 @@ module _ (n T : ℕ) (rates : List ℕ) (plan : IsPlan n T rates) where
 
   pub row-fits : (i : ℕ) → i < n → Fits (rowOf rates n i) T
   unfolding rowSum
-  row-fits i below = line-fits (rowOf rates n i) (λ j. getD rates (flowOf n i j) 0) (row-length rates n i (plan .square) below) (λ j l. row-rate rates n i j l) (plan .rows i below)
+  row-fits i below =
+      line-fits (rowOf rates n i) (λ j. getD rates (flowOf n i j) 0) (row-length rates n i (plan .square) below)
+      (λ j l. row-rate rates n i j l)
+      (plan .rows i below)
 
   pub column-fits : (j : ℕ) → j < n → Fits (columnOf rates n j) T
   unfolding columnSum
-  column-fits j below = line-fits (columnOf rates n j) (λ i. getD rates (flowOf n i j) 0) (column-length rates n j) (λ i l. column-rate rates n i j l) (plan .columns j below)
+  column-fits j below =
+      line-fits (columnOf rates n j) (λ i. getD rates (flowOf n i j) 0) (column-length rates n j)
+      (λ i l. column-rate rates n i j l)
+      (plan .columns j below)

@@ -15,6 +15,8 @@ noDeadline = 281474976710656
 unfoldable pub orFlow : Candidate → ℕ → ℕ → ℕ → ℕ → ℕ → Candidate
 orFlow c f a k T t = cond (eligible a k T t && ltb (deadline a k T) (c .deadline)) (record { choice = Flow f; deadline = deadline a k T }) c
 
+-- What the code's step answers, and what its next step asks: the deadline kept is no larger than 2 ^ 48, and the flow's own is
+-- not mistaken for none.
 pub record Improved (c : Candidate) (f a k T t : ℕ) (r : Candidate) : Type 0 where
   pub is : r ≡ orFlow c f a k T t
   pub within : r .deadline ≤ noDeadline

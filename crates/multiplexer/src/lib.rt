@@ -39,8 +39,8 @@ fn flows(n: usize) -> usize
 }
 
 impl Candidate {
-    // The choice with one flow more to choose from. Its deadline is compared by a product: it is divided for
-    // only where the flow is chosen.
+    // The choice with one flow more to choose from. As owed / a rounded up is below d exactly if owed + a <= d * a,
+    // a division is done only where the flow becomes the choice.
     fn or_flow(self, flow: usize, rate: u16, served: u16, frame: u32, slot: u32) -> Candidate
         requires { ⌜ self .deadline ≤ noDeadline ⌝ }
         ensures { λ r. ⌜ Improved self flow rate served frame slot r ⌝ }
