@@ -1,0 +1,10 @@
+pub mod SumLaws
+pub mod HoldsLaws
+pub mod FlowLaws
+pub mod OutcomeLaws
+pub mod ScaleLaws
+pub mod DiagonalLaws
+pub mod PlaceLaws
+pub mod VerdictLaws
+pub mod BoostLaws
+pub mod Examples

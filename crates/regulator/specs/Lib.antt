@@ -1,0 +1,4 @@
+pub mod Outcome
+pub mod Sums
+pub mod Scale
+pub mod Boost

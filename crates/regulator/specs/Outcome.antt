@@ -1,0 +1,41 @@
+-- What scale and boost answer and write: "Both read one lent list and write another, each N × N numbers long."
+use Prim.Native.Nat.{ℕ, _*_, _≤_}
+use mathlib.Core.Bool.{not, _&&_}
+use mathlib.Core.List.{List}
+use mathlib.Core.Path.{_≡_}
+use lib.Dec.{eqb}
+use Rattle.refusal.specs.Chain.{refuseIf, ifAccepted}
+use Rattle.refusal.specs.declared.Refusal.the-variants.{PortsOutOfRange, FrameOutOfRange, ListLength}
+use Rattle.refusal.specs.declared.Verdict.{Verdict}
+use Rattle.refusal.specs.declared.Verdict.the-variants.{Accepted}
+use Rattle.plan.specs.Range.{portsInRange, frameInRange}
+
+-- the verdict, and the written list as the call leaves it
+pub record Outcome : Type 0 where
+  pub verdict : Verdict
+  pub list : List ℕ
+
+abbrev pub outcome : Verdict → List ℕ → Outcome
+outcome verdict list = record { verdict = verdict; list = list }
+
+-- "A refusal gives the number; .. written lists are unchanged."
+abbrev pub written : Verdict → List ℕ → List ℕ → Outcome
+written verdict result before = outcome verdict (ifAccepted verdict result before)
+
+-- The order of both begins with N, T and the lengths of the two lists: `from` of the one that is read, and
+-- `to` of the one that is written. ListLength stands for "a rate, demand or output list isn't N × N long".
+unfoldable pub listsOf : ℕ → ℕ → ℕ → ℕ → Verdict
+listsOf n t from to =
+    refuseIf (not (portsInRange n)) PortsOutOfRange
+    (refuseIf (not (frameInRange t)) FrameOutOfRange
+    (refuseIf (not (eqb from (n * n) && eqb to (n * n))) ListLength
+    Accepted))
+
+-- What is known where these checks pass. proofs/OutcomeLaws.antt has that they pass then, and only then.
+pub record Checked (n t from to : ℕ) : Type 0 where
+  pub some-port : 1 ≤ n
+  pub few-ports : n ≤ 16
+  pub some-slot : 1 ≤ t
+  pub few-slots : t ≤ 4096
+  pub from-square : from ≡ n * n
+  pub to-square : to ≡ n * n
