@@ -5,7 +5,8 @@ use mathlib.Core.List.{List, [], _∷_}
 use lib.ListN.{replicate}
 use Rattle.multiplexer.specs.Choose.{eligible, roundedUp, better, bestOf, chooseOf}
 use Rattle.multiplexer.specs.Count.{countsAfter}
-use Rattle.multiplexer.specs.Frame.{listBelow, countsAt, frameOf}
+use Rattle.multiplexer.specs.Frame.{countsAt, frameOf}
+use Rattle.plan.specs.Below.{listBelow}
 use Rattle.multiplexer.specs.declared.Choice.the-variants.{Idle, Flow}
 
 zeros : List ℕ

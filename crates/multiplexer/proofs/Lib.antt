@@ -1,6 +1,5 @@
 pub mod RoundLaws
 pub mod SumLaws
-pub mod ListLaws
 pub mod ChoiceLaws
 pub mod CandidateLaws
 pub mod CountLaws

@@ -1,15 +1,10 @@
 -- A frame of one port, slot by slot.
 use Prim.Native.Nat.{ℕ, zero, suc}
 use mathlib.Core.List.{List, [], _∷_, _++_}
-use Rattle.plan.specs.Below.{sumBelow}
+use Rattle.plan.specs.Below.{sumBelow, listBelow}
 use Rattle.multiplexer.specs.Choose.{chooseOf}
 use Rattle.multiplexer.specs.Count.{servicesOf, countsAfter}
 use Rattle.multiplexer.specs.declared.Choice.{Choice}
-
--- x 0, .., x (n − 1)
-unfoldable pub listBelow : {A : Type 0} → (ℕ → A) → ℕ → List A
-listBelow x zero = []
-listBelow x (suc n) = listBelow x n ++ (x n ∷ [])
 
 -- the counts at the beginning of slot t, in a frame of T slots that begins with the counts ks
 unfoldable pub countsAt : List ℕ → List ℕ → ℕ → ℕ → List ℕ

@@ -1,4 +1,5 @@
 pub mod BelowLaws
+pub mod ListLaws
 pub mod TestLaws
 pub mod RangeLaws
 pub mod LineLaws

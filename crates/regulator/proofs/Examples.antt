@@ -4,6 +4,7 @@ use mathlib.Core.Path.{_≡_, refl}
 use Prim.Native.Nat.{ℕ}
 use lib.ListN.{replicate}
 use Rattle.refusal.specs.declared.Verdict.the-variants.{Accepted}
+use Rattle.plan.specs.Below.{listBelow}
 use Rattle.plan.specs.Range.{portsInRange, frameInRange}
 use Rattle.plan.specs.Lines.{rowSum, columnSum}
 use Rattle.plan.specs.Accept.{acceptOf}
@@ -15,7 +16,7 @@ abbrev scaled : List ℕ
 scaled = 2 ∷ 3 ∷ 3 ∷ 2 ∷ 3 ∷ 2 ∷ 2 ∷ 0 ∷ 3 ∷ []
 
 c4 : scaleOf 3 10 (4 ∷ 5 ∷ 6 ∷ 3 ∷ 5 ∷ 5 ∷ 2 ∷ 1 ∷ 6 ∷ []) (replicate 9 0) ≡ outcome Accepted scaled
-unfolding scaleOf listsOf portsInRange frameInRange scaledOf rowSum columnSum
+unfolding scaleOf listsOf portsInRange frameInRange scaledOf listBelow rowSum columnSum
 c4 = refl
 
 c5 : boostOf 3 10 scaled (replicate 9 0) ≡ outcome Accepted (4 ∷ 3 ∷ 3 ∷ 2 ∷ 6 ∷ 2 ∷ 4 ∷ 1 ∷ 5 ∷ [])
@@ -24,5 +25,5 @@ c5 = refl
 
 -- demands of 0, whose sums are 0 too
 idle : scaleOf 2 4 (replicate 4 0) (replicate 4 9) ≡ outcome Accepted (replicate 4 0)
-unfolding scaleOf listsOf portsInRange frameInRange scaledOf rowSum columnSum
+unfolding scaleOf listsOf portsInRange frameInRange scaledOf listBelow rowSum columnSum
 idle = refl

@@ -9,16 +9,8 @@ use lib.Seq.{getD-set-same, getD-set-other}
 use Rattle.plan.specs.Lines.{flowOf, rowSum, columnSum}
 use Rattle.plan.specs.Below.{sumBelow}
 use Rattle.plan.proofs.BelowLaws.{sum-ext, sum-mono, sum-grow, sum-term, sum-swap}
-use Rattle.plan.proofs.LineLaws.{flow-below}
+use Rattle.plan.proofs.LineLaws.{flow-below, flow-row, flow-column}
 use Rattle.regulator.specs.Sums.{largerSum, LineSums}
-
--- the row and the column of a flow, from its place
-
-pub flow-row : (n i j : ℕ) → j < n → flowOf n i j / n ≡ i
-flow-row n i j h = mul-add-div-right (omega arith) i j ∙ (rw (div-eq-of-lt h) (omega arith))
-
-pub flow-column : (n i j : ℕ) → j < n → flowOf n i j % n ≡ j
-flow-column n i j h = mul-add-mod-self-right i n j ∙ mod-eq-of-lt h
 
 -- a place's row and column are below n
 pub place-below : (n p : ℕ) → 1 ≤ n → p < n * n → (p / n < n) × (p % n < n)

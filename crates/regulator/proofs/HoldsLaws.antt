@@ -1,16 +1,15 @@
 -- A list that holds the values of a function from its first place on: one more is written, one of them grows,
 -- and the whole list is known by what it holds.
-use Prim.Native.Nat.{ℕ, zero, suc, _+_, _<_}
-use mathlib.Core.Path.{_≡_, refl, sym, _∙_}
-use mathlib.Core.List.{List, [], _∷_}
-use mathlib.Core.Logic.{⊎-elim}
+use Prim.Native.Nat.{ℕ, _+_, _<_}
+use mathlib.Core.Path.{_≡_, sym, _∙_}
+use mathlib.Core.List.{List}
 use native.Mathlib.Decide.{ℕ-discrete}
 use native.Mathlib.Omega.{arith}
-use lib.ListN.{length, getD, set, length-append, List·getD-append}
-use lib.Seq.{getD-at, getD-set-same, getD-set-other, ext-getD}
-use Rattle.plan.proofs.BelowLaws.{below-or-last}
+use lib.ListN.{length, getD, set}
+use lib.Seq.{getD-set-same, getD-set-other, ext-getD}
 use Rattle.regulator.specs.Sums.{Holds}
-use Rattle.regulator.specs.Scale.{listBelow}
+use Rattle.plan.specs.Below.{listBelow}
+use Rattle.plan.proofs.ListLaws.{getD-list}
 
 -- what holds at i, and at every other number, holds at k
 pub at-or-other : (P : ℕ → Type 0) (k i : ℕ) → P i → ((k ≡ i → ⊥) → P k) → P k
@@ -34,17 +33,8 @@ holds-grown l x y n i g h hi e grown kept k b =
     (omega (arith, getD-set-same l i (getD l i 0 + g) 0 h, e i hi))
     (λ ne. getD-set-other l i k (getD l i 0 + g) 0 ne ∙ e k b ∙ sym (kept k b ne))
 
-pub list-length : (x : ℕ → ℕ) (m : ℕ) → length (listBelow x m) ≡ m
-list-length x zero = refl
-list-length x (suc m) = length-append (listBelow x m) (x m ∷ []) ∙ omega (arith, list-length x m)
-
 pub list-holds : (x : ℕ → ℕ) (m : ℕ) → Holds (listBelow x m) x m
-list-holds x zero k h = absurd (omega arith)
-list-holds x (suc m) k h =
-    ⊎-elim
-    (λ (b : k < m). List·getD-append (listBelow x m) (x m ∷ []) 0 k (omega (arith, list-length x m)) ∙ list-holds x m k b)
-    (λ (e : k ≡ m). rw e (getD-at (listBelow x m) (x m) [] 0 m (list-length x m)))
-    (below-or-last k m h)
+list-holds x m k h = getD-list x m k 0 h
 
 -- two lists of one length that hold the same
 pub holds-same : (l o : List ℕ) (x : ℕ → ℕ) (m : ℕ) → length l ≡ m → length o ≡ m → Holds l x m → Holds o x m → l ≡ o

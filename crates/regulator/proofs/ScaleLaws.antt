@@ -14,8 +14,9 @@ use Rattle.plan.proofs.AcceptLaws.{accepts}
 use Rattle.regulator.specs.Sums.{largerSum}
 use Rattle.regulator.specs.Scale.{shareOf, scaledRate, scaledOf, scaleOf, ScaledPlan}
 use Rattle.regulator.proofs.SumLaws.{shares-within}
-use Rattle.regulator.proofs.HoldsLaws.{list-length, list-holds}
-use Rattle.regulator.proofs.FlowLaws.{flow-row, flow-column}
+use Rattle.regulator.proofs.HoldsLaws.{list-holds}
+use Rattle.plan.proofs.ListLaws.{length-list}
+use Rattle.plan.proofs.LineLaws.{flow-row, flow-column}
 use Rattle.regulator.proofs.OutcomeLaws.{lists-passed}
 
 -- shares
@@ -60,7 +61,7 @@ scaled-column n t demands j hj =
 
 pub scaled-length : (n t : ℕ) (demands : List ℕ) → length (scaledOf n t demands) ≡ n * n
 unfolding scaledOf
-scaled-length n t demands = list-length (scaledRate n t demands) (n * n)
+scaled-length n t demands = length-list (scaledRate n t demands) (n * n)
 
 pub scaled-plan : ScaledPlan
 unfolding scaleOf

@@ -7,7 +7,8 @@ use lib.ListN.{length, getD, length-set}
 use Rattle.plan.proofs.LineLaws.{square-small}
 use Rattle.regulator.specs.Sums.{Holds, LineSums}
 use Rattle.regulator.specs.Scale.{shareOf, scaledRate, scaledOf}
-use Rattle.regulator.proofs.HoldsLaws.{holds-next, holds-same, list-length, list-holds}
+use Rattle.regulator.proofs.HoldsLaws.{holds-next, holds-same, list-holds}
+use Rattle.plan.proofs.ListLaws.{length-list}
 use Rattle.regulator.proofs.FlowLaws.{place-below, place-in-row, larger-kept}
 use Rattle.regulator.proofs.scale.scale_places.Statement.{statement}
 use Rattle.regulator.proofs.scale.scale_places.Tie as tie
@@ -103,7 +104,7 @@ returns c =
     let a = c .before .before .before .before .before .before .before .args in
     let x = scaledRate (a .n) (a .t) (now (a .demands)) in
     let e : at .p ≡ a .n * a .n = omega arith in
-    holds-same (at .rates) _ x (a .n * a .n) (at .inv .2) (list-length x (a .n * a .n)) (rw e at (at .inv .4)) (list-holds x (a .n * a .n))
+    holds-same (at .rates) _ x (a .n * a .n) (at .inv .2) (length-list x (a .n * a .n)) (rw e at (at .inv .4)) (list-holds x (a .n * a .n))
 
 pub scale-places-spec : {M : Type 1} → statement M
 scale-places-spec =

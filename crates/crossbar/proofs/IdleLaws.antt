@@ -1,0 +1,133 @@
+-- In a slot that isn't refused, a port idles only if no flow of it is eligible.
+use Prim.Native.Nat.{ℕ, _*_, _<_, _≤_}
+use mathlib.Core.Path.{_≡_, refl, ap, sym, subst, _∙_}
+use mathlib.Core.Bool.{Bool, true, false, not}
+use mathlib.Core.List.{List}
+use native.Mathlib.Omega.{arith}
+use lib.Dec.{eqb}
+use lib.ListN.{length, getD}
+use borrow.Author.Tests.{not-false}
+use Rattle.refusal.specs.Chain.{ifAccepted}
+use Rattle.refusal.specs.declared.Verdict.{Verdict}
+use Rattle.refusal.specs.declared.Verdict.the-variants.{Accepted}
+use Rattle.refusal.proofs.ChainLaws.{refuse-passed}
+use Rattle.plan.specs.Desk.{rowOf}
+use Rattle.plan.specs.declared.Plan.{Plan}
+use Rattle.plan.proofs.BelowLaws.{and-true}
+use Rattle.multiplexer.specs.Choose.{chooseOf, eligibleAt}
+use Rattle.multiplexer.specs.Window.{columnOf}
+use Rattle.multiplexer.specs.declared.Choice.{Choice}
+use Rattle.multiplexer.specs.declared.Choice.the-variants as choice
+use Rattle.multiplexer.proofs.ChoiceLaws.{idle-none}
+use Rattle.multiplexer.proofs.PortLaws.{row-length, column-length}
+use Rattle.fabric.specs.Flow.{noMultiplexer, noPoint}
+use Rattle.fabric.specs.Answer.{port, answerOf, allIdle}
+use Rattle.fabric.specs.Choices.{choiceAt, CanChoose}
+use Rattle.fabric.specs.Moves.{moveOf}
+use Rattle.fabric.specs.Sends.{sendOf}
+use Rattle.fabric.specs.declared.flow.Answer.{Answer}
+use Rattle.fabric.specs.declared.flow.Answer.the-variants.{Idle, Empty, Moved}
+use Rattle.fabric.specs.declared.flow.Crosspoint.{Crosspoint}
+use Rattle.fabric.specs.declared.flow.Port.{Port}
+use Rattle.fabric.specs.declared.flow.Queue.{Queue}
+use Rattle.fabric.proofs.ChoiceLaws.{choices-at, choices-named}
+use Rattle.fabric.proofs.MoveLaws.{moves-served, moves-length}
+use Rattle.fabric.proofs.SendLaws.{sends-served}
+use Rattle.crossbar.specs.State.{planRates}
+use Rattle.crossbar.specs.Valid.{validOf, IsValid}
+use Rattle.crossbar.specs.Load.{withPlans}
+use Rattle.crossbar.specs.Takeover.{takesOver, replaced, cleared, takeoverOf}
+use Rattle.crossbar.specs.Step.{boardChoices, headChoices, slotMoves, slotSends, slotReply, stepVerdict, stepOf, Sized, IdlesOnly}
+use Rattle.crossbar.specs.declared.state.SlotReply.{SlotReply}
+use Rattle.crossbar.specs.declared.state.Switch.{Switch}
+use Rattle.crossbar.proofs.ValidLaws.{valid}
+use Rattle.crossbar.proofs.TakeoverLaws.{taken, not-taken, taken-rates}
+
+-- a service is never answered by "idle"
+move-answers : (depth j cell : ℕ) (q : Queue) (x : Crosspoint) → moveOf depth j cell q x .port .answer ≡ Idle → ⊥
+unfolding moveOf
+move-answers depth j cell q x = go (eqb (q .count) 0) refl
+  where
+    go : (b : Bool) → eqb (q .count) 0 ≡ b → moveOf depth j cell q x .port .answer ≡ Idle → ⊥
+    go true e h = let l : Empty j ≡ Idle = rw e at h in let z : _≡_ {A = ℕ} 0 1 = cc in omega arith
+    go false e h = let l : Moved j cell ≡ Idle = rw e at h in let z : _≡_ {A = ℕ} 0 1 = cc in omega arith
+
+send-answers : (i : ℕ) (x : Crosspoint) → sendOf i x .port .answer ≡ Idle → ⊥
+unfolding sendOf
+send-answers i x = go (eqb (x .count) 0) refl
+  where
+    go : (b : Bool) → eqb (x .count) 0 ≡ b → sendOf i x .port .answer ≡ Idle → ⊥
+    go true e h = let l : Empty i ≡ Idle = rw e at h in let z : _≡_ {A = ℕ} 0 1 = cc in omega arith
+    go false e h = let l : Moved i (getD (x .cells) 0 0) ≡ Idle = rw e at h in let z : _≡_ {A = ℕ} 0 1 = cc in omega arith
+
+module _
+    (u : Switch) (store : List ℕ)
+    (few : u .running .ports ≤ 16)
+    (square : length (planRates (u .running)) ≡ u .running .ports * u .running .ports)
+    (queues-full : length (u .queues) ≡ 256)
+    (points-full : length (u .crosspoints) ≡ 256)
+  where
+    abbrev n : ℕ
+    n = u .running .ports
+
+    rows-long : (i : ℕ) → i < n → length (rowOf (planRates (u .running)) n i) ≡ n
+    rows-long i l = row-length (planRates (u .running)) n i square l
+
+    boards-can : CanChoose n (boardChoices u)
+    unfolding boardChoices
+    boards-can = choices-named (rowOf (planRates (u .running)) n) (u .boards) (u .running .frame) (u .slot) n few rows-long
+
+    heads-can : CanChoose n (headChoices u)
+    unfolding headChoices
+    heads-can = choices-named (columnOf (planRates (u .running)) n) (u .heads) (u .running .frame) (u .slot) n few (λ j _. column-length (planRates (u .running)) n j)
+
+    board-idle : (i : ℕ) → i < n → answerOf (slotMoves u store .ports) i ≡ Idle → choiceAt (boardChoices u) i ≡ choice.Idle
+    board-idle i l h = go (choiceAt (boardChoices u) i) refl
+      where
+        go : (c : Choice) → choiceAt (boardChoices u) i ≡ c → choiceAt (boardChoices u) i ≡ choice.Idle
+        go choice.Idle e = e
+        go (choice.Flow j) e =
+            absurd (move-answers _ _ _ _ _ (sym (moves-served n (u .depth) store (boardChoices u) (u .queues) (u .crosspoints) boards-can queues-full points-full i j l e .answer) ∙ h))
+
+    filled-full : length (slotMoves u store .crosspoints) ≡ 256
+    filled-full = moves-length n (u .depth) store (boardChoices u) (u .queues) (u .crosspoints) n .points-kept ∙ points-full
+
+    head-idle : (j : ℕ) → j < n → answerOf (slotSends u store .ports) j ≡ Idle → choiceAt (headChoices u) j ≡ choice.Idle
+    head-idle j l h = go (choiceAt (headChoices u) j) refl
+      where
+        go : (c : Choice) → choiceAt (headChoices u) j ≡ c → choiceAt (headChoices u) j ≡ choice.Idle
+        go choice.Idle e = e
+        go (choice.Flow i) e =
+            absurd (send-answers _ _ (sym (sends-served n (headChoices u) (slotMoves u store .crosspoints) heads-can filled-full i j l e .answer) ∙ h))
+
+    slot-idles : IdlesOnly u (slotReply u store)
+    unfolding boardChoices headChoices
+    slot-idles =
+        record {
+          boards = λ i f hi hf h.
+              idle-none _ _ _ _ (sym (choices-at (rowOf (planRates (u .running)) n) (u .boards) (u .running .frame) (u .slot) n i hi few) ∙ board-idle i hi h) f
+              (omega (arith, rows-long i hi, few));
+          heads = λ j f hj hf h.
+              idle-none _ _ _ _ (sym (choices-at (columnOf (planRates (u .running)) n) (u .heads) (u .running .frame) (u .slot) n j hj few) ∙ head-idle j hj h) f
+              (omega (arith, column-length (planRates (u .running)) n j, few));
+        }
+
+pub idles-only : (s : Switch) (store : List ℕ) → Sized s → stepOf s store .verdict ≡ Accepted → IdlesOnly (takeoverOf s) (stepOf s store)
+unfolding stepOf stepVerdict
+idles-only s store size e =
+    subst (IdlesOnly (takeoverOf s)) (sym done) (go (takesOver s) refl)
+  where
+    rules : IsValid s
+    rules = valid s (not-false _ (refuse-passed (not (validOf s)) _ _ e .0))
+
+    done : stepOf s store ≡ slotReply (takeoverOf s) store
+    done = rw e refl
+
+    go : (b : Bool) → takesOver s ≡ b → IdlesOnly (takeoverOf s) (slotReply (takeoverOf s) store)
+    go true t =
+        let w = and-true (eqb (s .slot) 0) (s .waits) t .1 in
+        let p = rules .waiting w in
+        rw (taken s t)
+        (slot-idles (withPlans s (replaced (s .running) (s .waiting)) (cleared (s .waiting)) false) store (p .few-ports)
+        (ap length (taken-rates (s .running) (s .waiting) (p .few-ports) (size .running) (size .waiting)) ∙ p .square) (size .queues) (size .points))
+    go false t = rw (not-taken s t) (slot-idles s store (rules .running .few-ports) (rules .running .square) (size .queues) (size .points))

@@ -1,0 +1,11 @@
+pub mod LoopLaws
+pub mod OwnedLaws
+pub mod ValidLaws
+pub mod RateLaws
+pub mod StoreLaws
+pub mod StartLaws
+pub mod ArriveLaws
+pub mod LoadLaws
+pub mod TakeoverLaws
+pub mod StepLaws
+pub mod IdleLaws

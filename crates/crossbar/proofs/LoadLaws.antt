@@ -1,0 +1,59 @@
+-- When a load is accepted, and what it answers.
+use Prim.Native.Nat.{ℕ}
+use mathlib.Core.Path.{_≡_}
+use mathlib.Core.Bool.{not, _&&_}
+use mathlib.Core.List.{List}
+use lib.Dec.{eqb}
+use lib.ListN.{length}
+use borrow.Author.Tests.{not-false, eqb-true, eq-eqb}
+use Rattle.refusal.specs.declared.Refusal.{Refusal}
+use Rattle.refusal.specs.declared.Verdict.the-variants.{Accepted, Refused}
+use Rattle.refusal.proofs.ChainLaws.{refuse-passed, then-passed}
+use Rattle.plan.specs.Accept.{acceptOf}
+use Rattle.plan.proofs.BelowLaws.{and-true}
+use Rattle.plan.proofs.AcceptLaws.{accepted, accepts}
+use Rattle.crossbar.specs.State.{planRates}
+use Rattle.crossbar.specs.Valid.{validOf}
+use Rattle.crossbar.specs.Load.{loadVerdict, CanLoad, withWaiting, loadOf}
+use Rattle.crossbar.specs.declared.state.Switch.{Switch}
+use Rattle.crossbar.proofs.RateLaws.{laid-rates}
+
+pub can-load : (s : Switch) (n t : ℕ) (rates : List ℕ) → loadVerdict s n t rates ≡ Accepted → CanLoad s n t rates
+unfolding loadVerdict
+can-load s n t rates e =
+    let first = refuse-passed (not (validOf s)) _ _ e in
+    let second = then-passed (acceptOf n t rates) _ (first .1) in
+    let third = refuse-passed (not (eqb n (s .running .ports) && eqb t (s .running .frame))) _ _ (second .1) in
+    let fourth = refuse-passed (s .waits) _ _ (third .1) in
+    let same = and-true (eqb n (s .running .ports)) (eqb t (s .running .frame)) (not-false _ (third .0)) in
+    record {
+      valid = not-false _ (first .0);
+      plan = accepted n t rates (second .0);
+      ports = eqb-true n _ (same .0);
+      frame = eqb-true t _ (same .1);
+      free = fourth .0;
+    }
+
+pub loads : (s : Switch) (n t : ℕ) (rates : List ℕ) → CanLoad s n t rates → loadVerdict s n t rates ≡ Accepted
+unfolding loadVerdict
+loads s n t rates can =
+    simp (
+      can .valid,
+      accepts n t rates (can .plan),
+      eq-eqb n _ (can .ports),
+      eq-eqb t _ (can .frame),
+      can .free,
+    )
+
+pub load-accepted : (s : Switch) (n t : ℕ) (rates : List ℕ) → loadVerdict s n t rates ≡ Accepted → loadOf s n t rates ≡ record { verdict = Accepted; state = withWaiting s n t rates }
+unfolding loadOf
+load-accepted s n t rates e = simp e
+
+-- a refused load leaves the state as it was
+pub load-refused : (s : Switch) (n t : ℕ) (rates : List ℕ) (r : Refusal) → loadVerdict s n t rates ≡ Refused r → loadOf s n t rates ≡ record { verdict = Refused r; state = s }
+unfolding loadOf
+load-refused s n t rates r e = simp e
+
+-- the rates of a loaded plan are the given list
+pub loaded-rates : (s : Switch) (n t : ℕ) (rates : List ℕ) → length (s .waiting .rates) ≡ 256 → CanLoad s n t rates → planRates (withWaiting s n t rates .waiting) ≡ rates
+loaded-rates s n t rates full can = laid-rates (s .waiting .rates) n t rates full (can .plan)

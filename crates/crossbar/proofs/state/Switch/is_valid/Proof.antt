@@ -1,0 +1,90 @@
+use borrow.Author.Needs.{needs}
+use Prim.Native.Nat.{_≤_}
+use mathlib.Core.Bool.{true}
+use mathlib.Core.Path.{_≡_}
+use borrow.Author.Tests.{lt-ltb, le-ltb}
+use Rattle.plan.proofs.TestLaws.{failed, passed}
+use Rattle.crossbar.specs.State.{depthInRange}
+use Rattle.crossbar.specs.Valid.{plansValid, validOf}
+use Rattle.crossbar.proofs.ValidLaws.{running-valid}
+use Rattle.crossbar.proofs.state.Switch.is_valid.Statement.{statement}
+use Rattle.crossbar.proofs.state.Switch.is_valid.Tie as tie
+
+-- What each test has shown once it is passed.
+
+plans-pass : (c : tie.Else1) → let s = c .before .before .before .before .args .self in plansValid (s .running) (s .waiting) (s .waits) ≡ true
+plans-pass c = passed (c .before .plans-valid .ensures) (c .if1 .left)
+
+depth-pass : (c : tie.Else2) → depthInRange (c .before .before .before .before .before .before .args .self .depth) ≡ true
+depth-pass c = passed (c .before .depth-in-range .ensures) (c .if2 .left)
+
+few-ports : (c : tie.Else1) → c .before .before .before .before .args .self .running .ports ≤ 16
+few-ports c =
+    let s = c .before .before .before .before .args .self in
+    running-valid (s .running) (s .waiting) (s .waits) (plans-pass c) .few-ports
+
+plans-valid-requires : tie.Need-plans-valid-requires
+plans-valid-requires c κs = search needs
+
+returns : tie.Need-returns
+unfolding validOf
+returns c = simp (failed (c .before .plans-valid .ensures) (c .if1 .taken))
+
+depth-in-range-requires : tie.Need-depth-in-range-requires
+depth-in-range-requires c κs = search needs
+
+returns-2 : tie.Need-returns-2
+unfolding validOf
+returns-2 c = simp (plans-pass (c .before .before), failed (c .before .depth-in-range .ensures) (c .if2 .taken))
+
+returns-3 : tie.Need-returns-3
+unfolding validOf
+returns-3 c =
+    let c2 = c .before .before .before in
+    simp (plans-pass (c2 .before .before), depth-pass c2, le-ltb _ _ (c .if3 .taken))
+
+flows-valid-requires : tie.Need-flows-valid-requires
+flows-valid-requires c κs = few-ports (c .before .before .before .before .before .before .before)
+
+returns-4 : tie.Need-returns-4
+unfolding validOf
+returns-4 c =
+    let c3 = c .before .before .before .before in
+    let c2 = c3 .before .before .before in
+    simp (
+      plans-pass (c2 .before .before),
+      depth-pass c2,
+      lt-ltb _ _ (c3 .if3 .left),
+      failed (c .before .flows-valid .ensures) (c .if4 .taken),
+    )
+
+counts-valid-requires : tie.Need-counts-valid-requires
+counts-valid-requires c κs = few-ports (c .before .before .before .before .before .before .before .before .before .before .before)
+
+returns-5 : tie.Need-returns-5
+unfolding validOf
+returns-5 c =
+    let c4 = c .before .before .before in
+    let c3 = c4 .before .before .before .before in
+    let c2 = c3 .before .before .before in
+    simp (
+      plans-pass (c2 .before .before),
+      depth-pass c2,
+      lt-ltb _ _ (c3 .if3 .left),
+      passed (c4 .before .flows-valid .ensures) (c4 .if4 .left),
+    )
+    (c .counts-valid .ensures)
+
+pub is-valid-spec : {M : Type 1} → statement M
+is-valid-spec =
+    tie.close
+    (tie.spec
+    plans-valid-requires
+    returns
+    depth-in-range-requires
+    returns-2
+    returns-3
+    flows-valid-requires
+    returns-4
+    counts-valid-requires
+    returns-5)

@@ -1,0 +1,15 @@
+use borrow.Author.Tests.{lt-leb, le-leb, eq-eqb, ne-eqb}
+use Rattle.crossbar.proofs.valid.count_valid.Statement.{statement}
+use Rattle.crossbar.proofs.valid.count_valid.Tie as tie
+
+returns : tie.Need-returns
+returns c = simp (lt-leb _ _ (c .if1 .taken))
+
+returns-2 : tie.Need-returns-2
+returns-2 c = simp (le-leb _ _ (c .before .if1 .left), ne-eqb _ _ (c .if2 .taken))
+
+returns-3 : tie.Need-returns-3
+returns-3 c = simp (le-leb _ _ (c .before .if1 .left), eq-eqb _ _ (c .if2 .left))
+
+pub count-valid-spec : {M : Type 1} → statement M
+count-valid-spec = tie.close (tie.spec returns returns-2 returns-3)

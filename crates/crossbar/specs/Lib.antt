@@ -1,0 +1,8 @@
+pub mod State
+pub mod Valid
+pub mod Rates
+pub mod Start
+pub mod Arrive
+pub mod Load
+pub mod Takeover
+pub mod Step

@@ -1,0 +1,41 @@
+-- The parts of the state by flow and port.
+use Prim.Native.Nat.{ℕ, _+_, _*_, _%_}
+use mathlib.Core.Bool.{Bool, true, false, cond, _&&_}
+use mathlib.Core.List.{List, [], _∷_}
+use lib.Dec.{leb, eqb}
+use lib.ListN.{length, getD, take}
+use Rattle.plan.specs.Lines.{flowOf}
+use Rattle.plan.specs.declared.Plan.{Plan}
+use Rattle.multiplexer.specs.declared.Multiplexer.{Multiplexer}
+use Rattle.fabric.specs.Flow.{noQueue, noPoint, noMultiplexer}
+use Rattle.fabric.specs.declared.flow.Queue.{Queue}
+use Rattle.fabric.specs.declared.flow.Crosspoint.{Crosspoint}
+use Rattle.crossbar.specs.declared.state.Switch.{Switch}
+
+abbrev pub queueAt : Switch → ℕ → Queue
+queueAt s k = getD (s .queues) k noQueue
+
+abbrev pub pointAt : Switch → ℕ → Crosspoint
+pointAt s k = getD (s .crosspoints) k noPoint
+
+-- the N × N rates of a plan
+abbrev pub planRates : Plan → List ℕ
+planRates p = take (p .ports * p .ports) (p .rates)
+
+abbrev pub rateAt : Plan → ℕ → ℕ → ℕ
+rateAt p i j = getD (planRates p) (flowOf (p .ports) i j) 0
+
+-- how often board i served head j in this frame, and head j board i
+abbrev pub boardCount : Switch → ℕ → ℕ → ℕ
+boardCount s i j = getD (getD (s .boards) i noMultiplexer .served) j 0
+
+abbrev pub headCount : Switch → ℕ → ℕ → ℕ
+headCount s i j = getD (getD (s .heads) j noMultiplexer .served) i 0
+
+-- "The queue depth Q is 1 to 64 cells."
+unfoldable pub depthInRange : ℕ → Bool
+depthInRange depth = leb 1 depth && leb depth 64
+
+-- "a lent store of N × N × Q numbers"
+unfoldable pub storeFits : ℕ → ℕ → ℕ → Bool
+storeFits n depth len = eqb len (n * n * depth)

@@ -1,0 +1,7 @@
+pub mod ListLaws
+pub mod FlowLaws
+pub mod TouchLaws
+pub mod ChoiceLaws
+pub mod MoveLaws
+pub mod SendLaws
+pub mod CountLaws

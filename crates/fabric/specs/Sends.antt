@@ -1,0 +1,45 @@
+-- "Each chosen flow of an output sends the oldest cell of its crosspoint, if it has one, counting a cell moved in this
+-- slot." "Its oldest cell is in the first place; sending moves the second one up, and the place that falls empty is set
+-- to 0."
+use Prim.Native.Nat.{ℕ, zero, suc, _-_}
+use mathlib.Core.Bool.{cond}
+use mathlib.Core.List.{List}
+use lib.Dec.{eqb, ltb}
+use lib.ListN.{getD, set}
+use Rattle.plan.specs.Lines.{flowOf}
+use Rattle.multiplexer.specs.declared.Choice.{Choice}
+use Rattle.multiplexer.specs.declared.Choice.the-variants.{Idle, Flow}
+use Rattle.fabric.specs.Flow.{noPoint}
+use Rattle.fabric.specs.Answer.{port, allIdle}
+use Rattle.fabric.specs.Choices.{choiceAt}
+use Rattle.fabric.specs.declared.flow.Answer.the-variants.{Empty, Moved}
+use Rattle.fabric.specs.declared.flow.Crosspoint.{Crosspoint}
+use Rattle.fabric.specs.declared.sends.Send.{Send}
+use Rattle.fabric.specs.declared.sends.Sends.{Sends}
+
+-- the cells after the oldest one left: of two the second moves up, and the place behind the last cell is 0
+abbrev pub movedUp : Crosspoint → List ℕ
+movedUp x =
+    cond (ltb 1 (x .count))
+    (set (set (x .cells) 0 (getD (x .cells) 1 0)) 1 0)
+    (set (x .cells) 0 0)
+
+-- what a head's service of board i makes of its crosspoint
+unfoldable pub sendOf : ℕ → Crosspoint → Send
+sendOf i x =
+    cond (eqb (x .count) 0)
+    (record { point = x; port = port (Empty i) })
+    (record { point = record { cells = movedUp x; count = x .count - 1 }; port = port (Moved i (getD (x .cells) 0 0)) })
+
+-- head j's part of the slot
+unfoldable pub headSends : ℕ → ℕ → Choice → Sends → Sends
+headSends n j Idle f = f
+headSends n j (Flow i) f =
+    let k = flowOf n i j in
+    let r = sendOf i (getD (f .crosspoints) k noPoint) in
+    record { crosspoints = set (f .crosspoints) k (r .point); ports = set (f .ports) j (r .port) }
+
+-- the heads below m
+unfoldable pub sendsOf : ℕ → List Choice → List Crosspoint → ℕ → Sends
+sendsOf n choices points zero = record { crosspoints = points; ports = allIdle }
+sendsOf n choices points (suc m) = headSends n m (choiceAt choices m) (sendsOf n choices points m)

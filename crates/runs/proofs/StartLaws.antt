@@ -1,0 +1,79 @@
+-- A run begins soundly.
+use Prim.Native.Nat.{ℕ, _+_, _*_, _<_, _≤_}
+use mathlib.Core.Path.{_≡_, refl, ap, sym, subst, _∙_}
+use mathlib.Core.Bool.{true, false, false≢true}
+use mathlib.Core.List.{List, []}
+use native.Mathlib.Omega.{arith}
+use lib.ListN.{length, getD, replicate, length-replicate, getD-replicate}
+use Rattle.plan.specs.Lines.{flowOf}
+use Rattle.plan.specs.declared.Plan.{Plan}
+use Rattle.plan.proofs.LineLaws.{flow-below, square-small}
+use Rattle.multiplexer.specs.Window.{FrameStart}
+use Rattle.multiplexer.proofs.PacedLaws.{paced-start}
+use Rattle.multiplexer.proofs.PortLaws.{row-length, row-fits, column-length, column-fits}
+use Rattle.fabric.specs.Flow.{noQueue, noPoint, noMultiplexer}
+use Rattle.crossbar.specs.State.{planRates, queueAt, pointAt, boardCount, headCount}
+use Rattle.crossbar.specs.Rates.{overlaid}
+use Rattle.crossbar.specs.Start.{emptyQueue, emptyPoint, restedPort, freshWith, planOf, CanStart}
+use Rattle.fabric.specs.declared.flow.Crosspoint.{Crosspoint}
+use Rattle.crossbar.specs.declared.state.Switch.{Switch}
+use Rattle.crossbar.proofs.RateLaws.{overlaid-length}
+use Rattle.crossbar.proofs.StartLaws.{started-rates}
+use Rattle.runs.proofs.SoundLaws.{Sound}
+
+module _ (n t : ℕ) (rates : List ℕ) (depth : ℕ) (store : List ℕ) (ok : CanStart n t rates depth (length store)) where
+  abbrev pub fresh : Switch
+  fresh = freshWith (planOf n t rates) depth
+
+  small : (i j : ℕ) → i < n → j < n → flowOf n i j < 256
+  small i j hi hj = omega (arith, flow-below n i j hi hj, square-small n (ok .plan .few-ports))
+
+  pub queue-is : (i j : ℕ) → i < n → j < n → queueAt fresh (flowOf n i j) ≡ emptyQueue
+  unfolding freshWith
+  queue-is i j hi hj = getD-replicate 256 (flowOf n i j) emptyQueue noQueue (small i j hi hj)
+
+  pub point-is : (i j : ℕ) → i < n → j < n → pointAt fresh (flowOf n i j) ≡ emptyPoint
+  unfolding freshWith
+  point-is i j hi hj = getD-replicate 256 (flowOf n i j) emptyPoint noPoint (small i j hi hj)
+
+  port-is : (p : ℕ) → p < n → getD (replicate 16 restedPort) p noMultiplexer ≡ restedPort
+  port-is p h = getD-replicate 16 p restedPort noMultiplexer (omega (arith, ok .plan .few-ports))
+
+  no-service : (p f : ℕ) → p < n → f < n → getD (getD (replicate 16 restedPort) p noMultiplexer .served) f 0 ≡ 0
+  no-service p f hp hf = rw (port-is p hp) (getD-replicate 16 f 0 0 (omega (arith, ok .plan .few-ports)))
+
+  pub board-zero : (i j : ℕ) → i < n → j < n → boardCount fresh i j ≡ 0
+  unfolding freshWith
+  board-zero i j hi hj = no-service i j hi hj
+
+  pub head-zero : (i j : ℕ) → i < n → j < n → headCount fresh i j ≡ 0
+  unfolding freshWith
+  head-zero i j hi hj = no-service j i hj hi
+
+  rested : (m : ℕ) → m ≡ n → FrameStart (replicate 16 0) m
+  rested m e = record { full = length-replicate {A = ℕ} 16 0; zeros = λ f l. getD-replicate 16 f 0 0 (omega (arith, ok .plan .few-ports)) }
+
+  pub sound-start : Sound fresh store
+  unfolding freshWith
+  sound-start =
+      let p = started-rates n t rates (ok .plan) in
+      record {
+        plan = rw p (ok .plan);
+        waiting = λ (h : false ≡ true). absurd (false≢true h);
+        some-depth = ok .some-cell;
+        few-cells = ok .few-cells;
+        in-frame = omega (arith, ok .plan .some-slot);
+        running-size = overlaid-length (replicate 256 0) rates (n * n) ∙ length-replicate {A = ℕ} 256 0;
+        waiting-size = length-replicate {A = ℕ} 256 0;
+        queues-size = length-replicate 256 emptyQueue;
+        points-size = length-replicate 256 emptyPoint;
+        boards-size = length-replicate 16 restedPort;
+        heads-size = length-replicate 16 restedPort;
+        store-size = ok .store;
+        place = λ i j hi hj. rw (queue-is i j hi hj) (ok .some-cell);
+        queued = λ i j hi hj. rw (queue-is i j hi hj) (omega arith);
+        two-places = λ i j hi hj. rw (point-is i j hi hj) refl;
+        boards = λ i hi. rw (p, port-is i hi) (paced-start (row-fits n t rates (ok .plan) i hi) (rested _ (row-length rates n i (ok .plan .square) hi)));
+        heads = λ j hj. rw (p, port-is j hj) (paced-start (column-fits n t rates (ok .plan) j hj) (rested _ (column-length rates n j)));
+        balanced = λ i j hi hj. omega (arith, ap (λ (x : Crosspoint). x .count) (point-is i j hi hj), head-zero i j hi hj);
+      }

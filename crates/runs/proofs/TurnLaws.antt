@@ -1,0 +1,135 @@
+-- What one slot's service, or none, makes of a flow: its queue and crosspoint, the cells that its ports answer, and how
+-- often they answer "empty".
+use Prim.Native.Nat.{ℕ, _+_, _-_, _*_, _%_, _<_, _≤_}
+use mathlib.Core.Path.{_≡_, refl, ap, sym, _∙_}
+use mathlib.Core.Bool.{Bool, true, false, cond}
+use mathlib.Core.List.{List, [], _∷_, _++_, append-nil}
+use native.Mathlib.Nat.{mod-lt}
+use native.Mathlib.Omega.{arith}
+use lib.Dec.{eqb, ltb}
+use lib.ListN.{length, getD, set, take, length-set}
+use borrow.Author.Tests.{eqb-true, eqb-false, eq-eqb, ne-eqb}
+use Rattle.fabric.specs.Flow.{cellPlace}
+use Rattle.fabric.specs.Answer.{cellsWith, emptyWith}
+use Rattle.fabric.specs.Moves.{moveOf, shorter, filled}
+use Rattle.fabric.specs.Sends.{sendOf, movedUp}
+use Rattle.fabric.specs.declared.flow.Answer.{Answer}
+use Rattle.fabric.specs.declared.flow.Queue.{Queue}
+use Rattle.fabric.specs.declared.flow.Crosspoint.{Crosspoint}
+use Rattle.fabric.specs.declared.moves.Move.{Move}
+use Rattle.fabric.specs.declared.sends.Send.{Send}
+use Rattle.runs.proofs.CellLaws.{ringCells, ring-shorter, held, held-filled, held-sent}
+
+-- The board's side: b services, the cells moved, and the empty services.
+pub record BoardTurn (store : List ℕ) (depth k : ℕ) (q q' : Queue) (x x' : Crosspoint) (b : ℕ) (cells : List ℕ) (empty : ℕ) : Type 0 where
+  pub from-queue : ringCells store depth k q ≡ cells ++ ringCells store depth k q'
+  pub to-point : held x ++ cells ≡ held x'
+  pub count : x' .count ≡ x .count + length cells
+  pub split : b ≡ length cells + empty
+  pub place : q' .place < depth
+  pub shorter : q' .count ≤ q .count
+  pub size : length (x' .cells) ≡ 2
+
+-- The head's side.
+pub record HeadTurn (x x' : Crosspoint) (h : ℕ) (cells : List ℕ) (empty : ℕ) : Type 0 where
+  pub from-point : held x ≡ cells ++ held x'
+  pub count : x' .count + length cells ≡ x .count
+  pub split : h ≡ length cells + empty
+  pub dry : 1 ≤ empty → x .count ≡ 0
+  pub size : length (x' .cells) ≡ 2
+
+pub board-idle : (store : List ℕ) (depth k : ℕ) (q : Queue) (x : Crosspoint) → q .place < depth → length (x .cells) ≡ 2 → BoardTurn store depth k q q x x 0 [] 0
+board-idle store depth k q x hp hx =
+    record {
+      from-queue = refl;
+      to-point = append-nil _;
+      count = omega arith;
+      split = refl;
+      place = hp;
+      shorter = omega arith;
+      size = hx;
+    }
+
+pub head-idle : (x : Crosspoint) → length (x .cells) ≡ 2 → HeadTurn x x 0 [] 0
+head-idle x hx = record { from-point = refl; count = omega arith; split = refl; dry = λ (h : 1 ≤ 0). absurd (omega arith); size = hx }
+
+-- as many as an answer says
+abbrev pub empties : ℕ → Answer → ℕ
+empties p a = cond (emptyWith p a) 1 0
+
+module _ (store : List ℕ) (depth k j : ℕ) (q : Queue) (x : Crosspoint) (some : 1 ≤ depth) (hp : q .place < depth) (hx : length (x .cells) ≡ 2) where
+  abbrev After : Move → Type 0
+  After r = BoardTurn store depth k q (r .queue) x (r .point) 1 (cellsWith j (r .port .answer)) (empties j (r .port .answer))
+
+  pub board-serves : (1 ≤ q .count → x .count < 2) → After (moveOf depth j (getD store (cellPlace depth k q 0) 0) q x)
+  unfolding moveOf
+  board-serves room = go (eqb (q .count) 0) refl
+    where
+      go : (b : Bool) → eqb (q .count) 0 ≡ b → After (moveOf depth j (getD store (cellPlace depth k q 0) 0) q x)
+      go true e = rw (e, eq-eqb j j refl) (
+          record {
+            from-queue = refl;
+            to-point = append-nil _;
+            count = omega arith;
+            split = refl;
+            place = hp;
+            shorter = omega arith;
+            size = hx;
+          })
+      go false e =
+          let ne = eqb-false (q .count) 0 e in
+          let full : 1 ≤ q .count = omega arith in
+          rw (e, eq-eqb j j refl) (
+          record {
+            from-queue = ring-shorter store depth k q full;
+            to-point = sym (held-filled x _ (omega (arith, room full)));
+            count = refl;
+            split = refl;
+            place = mod-lt (q .place + 1) some;
+            shorter = omega arith;
+            size = length-set (x .cells) (x .count) _ ∙ hx;
+          })
+
+module _ (i : ℕ) (x : Crosspoint) (hx : length (x .cells) ≡ 2) (two : x .count ≤ 2) where
+  abbrev Sent : Send → Type 0
+  Sent r = HeadTurn x (r .point) 1 (cellsWith i (r .port .answer)) (empties i (r .port .answer))
+
+  up-size : (b : Bool) → length (cond b (set (set (x .cells) 0 (getD (x .cells) 1 0)) 1 0) (set (x .cells) 0 0)) ≡ 2
+  up-size true = length-set (set (x .cells) 0 (getD (x .cells) 1 0)) 1 0 ∙ length-set (x .cells) 0 _ ∙ hx
+  up-size false = length-set (x .cells) 0 _ ∙ hx
+
+  pub head-serves : Sent (sendOf i x)
+  unfolding sendOf
+  head-serves = go (eqb (x .count) 0) refl
+    where
+      go : (b : Bool) → eqb (x .count) 0 ≡ b → Sent (sendOf i x)
+      go true e = rw (e, eq-eqb i i refl) (
+          record { from-point = refl; count = omega arith; split = refl; dry = λ _. eqb-true (x .count) 0 e; size = hx })
+      go false e =
+          let ne = eqb-false (x .count) 0 e in
+          rw (e, eq-eqb i i refl) (
+          record {
+            from-point = held-sent x (omega arith) two hx;
+            count = omega arith;
+            split = refl;
+            dry = λ (h : 1 ≤ 0). absurd (omega arith);
+            size = up-size (ltb 1 (x .count));
+          })
+
+-- a service of another port says nothing of this one
+pub other-move : (depth g j cell : ℕ) (q : Queue) (x : Crosspoint) → (g ≡ j → ⊥)
+    → (cellsWith j (moveOf depth g cell q x .port .answer) ≡ []) × (empties j (moveOf depth g cell q x .port .answer) ≡ 0)
+unfolding moveOf
+other-move depth g j cell q x ne = go (eqb (q .count) 0) refl
+  where
+    go : (b : Bool) → eqb (q .count) 0 ≡ b → (cellsWith j (moveOf depth g cell q x .port .answer) ≡ []) × (empties j (moveOf depth g cell q x .port .answer) ≡ 0)
+    go true e = rw (e, ne-eqb g j ne) (refl, refl)
+    go false e = rw (e, ne-eqb g j ne) (refl, refl)
+
+pub other-send : (g i : ℕ) (x : Crosspoint) → (g ≡ i → ⊥) → (cellsWith i (sendOf g x .port .answer) ≡ []) × (empties i (sendOf g x .port .answer) ≡ 0)
+unfolding sendOf
+other-send g i x ne = go (eqb (x .count) 0) refl
+  where
+    go : (b : Bool) → eqb (x .count) 0 ≡ b → (cellsWith i (sendOf g x .port .answer) ≡ []) × (empties i (sendOf g x .port .answer) ≡ 0)
+    go true e = rw (e, ne-eqb g i ne) (refl, refl)
+    go false e = rw (e, ne-eqb g i ne) (refl, refl)

@@ -1,0 +1,4 @@
+pub mod Event
+pub mod Run
+pub mod Flow
+pub mod Promise

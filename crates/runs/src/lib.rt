@@ -1,0 +1,1 @@
+// Runs of the switch: what is promised of every list of calls is in specs/, and its proof in proofs/.
