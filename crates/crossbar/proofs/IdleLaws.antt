@@ -7,28 +7,21 @@ use native.Mathlib.Omega.{arith}
 use lib.Dec.{eqb}
 use lib.ListN.{length, getD}
 use borrow.Author.Tests.{not-false}
-use Rattle.refusal.specs.Chain.{ifAccepted}
-use Rattle.refusal.specs.declared.Verdict.{Verdict}
 use Rattle.refusal.specs.declared.Verdict.the-variants.{Accepted}
 use Rattle.refusal.proofs.ChainLaws.{refuse-passed}
 use Rattle.plan.specs.Desk.{rowOf}
-use Rattle.plan.specs.declared.Plan.{Plan}
 use Rattle.plan.proofs.BelowLaws.{and-true}
-use Rattle.multiplexer.specs.Choose.{chooseOf, eligibleAt}
 use Rattle.multiplexer.specs.Window.{columnOf}
 use Rattle.multiplexer.specs.declared.Choice.{Choice}
 use Rattle.multiplexer.specs.declared.Choice.the-variants as choice
 use Rattle.multiplexer.proofs.ChoiceLaws.{idle-none}
 use Rattle.multiplexer.proofs.PortLaws.{row-length, column-length}
-use Rattle.fabric.specs.Flow.{noMultiplexer, noPoint}
-use Rattle.fabric.specs.Answer.{port, answerOf, allIdle}
+use Rattle.fabric.specs.Answer.{port, answerOf}
 use Rattle.fabric.specs.Choices.{choiceAt, CanChoose}
 use Rattle.fabric.specs.Moves.{moveOf}
 use Rattle.fabric.specs.Sends.{sendOf}
-use Rattle.fabric.specs.declared.flow.Answer.{Answer}
 use Rattle.fabric.specs.declared.flow.Answer.the-variants.{Idle, Empty, Moved}
 use Rattle.fabric.specs.declared.flow.Crosspoint.{Crosspoint}
-use Rattle.fabric.specs.declared.flow.Port.{Port}
 use Rattle.fabric.specs.declared.flow.Queue.{Queue}
 use Rattle.fabric.proofs.ChoiceLaws.{choices-at, choices-named}
 use Rattle.fabric.proofs.MoveLaws.{moves-served, moves-length}
@@ -38,7 +31,6 @@ use Rattle.crossbar.specs.Valid.{validOf, IsValid}
 use Rattle.crossbar.specs.Load.{withPlans}
 use Rattle.crossbar.specs.Takeover.{takesOver, replaced, cleared, takeoverOf}
 use Rattle.crossbar.specs.Step.{boardChoices, headChoices, slotMoves, slotSends, slotReply, stepVerdict, stepOf, Sized, IdlesOnly}
-use Rattle.crossbar.specs.declared.state.SlotReply.{SlotReply}
 use Rattle.crossbar.specs.declared.state.Switch.{Switch}
 use Rattle.crossbar.proofs.ValidLaws.{valid}
 use Rattle.crossbar.proofs.TakeoverLaws.{taken, not-taken, taken-rates}

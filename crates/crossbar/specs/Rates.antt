@@ -1,8 +1,7 @@
 -- Lists of rates in the arrays of a plan: only the places below N × N are written.
-use Prim.Native.Nat.{ℕ, zero, suc, _+_, _*_}
+use Prim.Native.Nat.{ℕ, zero, suc}
 use mathlib.Core.List.{List}
-use lib.ListN.{getD, set, replicate}
-use Rattle.plan.specs.Lines.{flowOf}
+use lib.ListN.{getD, set}
 
 -- an array with its first places taken from a list, and 0 where the list has none
 unfoldable pub overlaid : List ℕ → List ℕ → ℕ → List ℕ

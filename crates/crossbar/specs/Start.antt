@@ -4,7 +4,7 @@
 use Prim.Native.Nat.{ℕ, _*_, _≤_}
 use mathlib.Core.Path.{_≡_}
 use mathlib.Core.Bool.{false, not}
-use mathlib.Core.List.{List, []}
+use mathlib.Core.List.{List}
 use lib.ListN.{length, replicate}
 use Rattle.refusal.specs.Chain.{refuseIf, andThen, ifAccepted}
 use Rattle.refusal.specs.declared.Refusal.the-variants.{DepthOutOfRange, StoreLength}

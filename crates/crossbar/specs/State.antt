@@ -1,12 +1,11 @@
 -- The parts of the state by flow and port.
-use Prim.Native.Nat.{ℕ, _+_, _*_, _%_}
-use mathlib.Core.Bool.{Bool, true, false, cond, _&&_}
-use mathlib.Core.List.{List, [], _∷_}
+use Prim.Native.Nat.{ℕ, _*_}
+use mathlib.Core.Bool.{Bool, _&&_}
+use mathlib.Core.List.{List}
 use lib.Dec.{leb, eqb}
-use lib.ListN.{length, getD, take}
+use lib.ListN.{getD, take}
 use Rattle.plan.specs.Lines.{flowOf}
 use Rattle.plan.specs.declared.Plan.{Plan}
-use Rattle.multiplexer.specs.declared.Multiplexer.{Multiplexer}
 use Rattle.fabric.specs.Flow.{noQueue, noPoint, noMultiplexer}
 use Rattle.fabric.specs.declared.flow.Queue.{Queue}
 use Rattle.fabric.specs.declared.flow.Crosspoint.{Crosspoint}

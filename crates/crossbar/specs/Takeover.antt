@@ -1,9 +1,9 @@
 -- "In slot 0, a waiting plan becomes the running plan; then none waits, and the waiting plan's N, T and its rates for
 -- ports below N in the state are 0."
-use Prim.Native.Nat.{ℕ, _*_, _≤_}
+use Prim.Native.Nat.{_*_, _≤_}
 use mathlib.Core.Path.{_≡_}
 use mathlib.Core.Bool.{Bool, true, false, cond, _&&_}
-use mathlib.Core.List.{List, []}
+use mathlib.Core.List.{[]}
 use lib.Dec.{eqb}
 use Rattle.plan.specs.declared.Plan.{Plan}
 use Rattle.crossbar.specs.Rates.{overlaid}

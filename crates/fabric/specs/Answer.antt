@@ -1,7 +1,7 @@
 -- What a port's answer says: "idle; empty (served, nothing to move), with the other port; moved, with the other port
 -- and the cell."
 use Prim.Native.Nat.{ℕ}
-use mathlib.Core.Bool.{Bool, true, false, cond}
+use mathlib.Core.Bool.{Bool, false, cond}
 use mathlib.Core.List.{List, [], _∷_}
 use lib.Dec.{eqb}
 use lib.ListN.{getD, replicate}

@@ -1,5 +1,4 @@
 // Where a flow stands in the lists of the state, and its oldest cell in the store.
-ghost use mathlib.Core.Path.{_≡_};
 ghost use Prim.Native.Nat.{_*_, _<_, _≤_};
 ghost use Rattle.fabric.specs.Places.{FlowPlace, OldestPlace};
 use crate::flow::Queue;

@@ -1,7 +1,7 @@
 -- What is known of an accepted plan, and when a plan is accepted.
 use Prim.Native.Nat.{ℕ, _*_, _<_, _≤_}
-use mathlib.Core.Path.{_≡_, refl, ap, sym, _∙_}
-use mathlib.Core.Bool.{Bool, true, false, not}
+use mathlib.Core.Path.{_≡_, ap}
+use mathlib.Core.Bool.{true, not}
 use mathlib.Core.List.{List}
 use native.Mathlib.Omega.{arith}
 use lib.Dec.{leb}
@@ -9,7 +9,6 @@ use lib.ListN.{length, getD}
 use borrow.Author.Tests.{leb-true, le-leb, eqb-true, eq-eqb, not-false}
 use Rattle.refusal.specs.declared.Verdict.the-variants.{Accepted}
 use Rattle.refusal.proofs.ChainLaws.{refuse-passed}
-use Rattle.plan.specs.Below.{allBelow}
 use Rattle.plan.specs.Lines.{flowOf, rowSum, columnSum, lineSum, isSquare}
 use Rattle.plan.specs.Range.{portsInRange, frameInRange}
 use Rattle.plan.specs.Accept.{withinFrame, acceptOf, IsPlan}

@@ -5,7 +5,6 @@ use mathlib.Core.List.{List}
 use native.Mathlib.Nat.{add-zero, mul-le-mul-right, mul-le-mul, suc-mul, mul-add-div-right, div-eq-of-lt, mul-add-mod-self-right, mod-eq-of-lt}
 use native.Mathlib.Omega.{arith}
 use lib.ListN.{length, getD}
-use Rattle.plan.specs.Below.{sumBelow}
 use Rattle.plan.specs.Lines.{flowOf, rowSum, columnSum, lineSum, LinesIn}
 use Rattle.plan.proofs.BelowLaws.{sum-ext}
 

@@ -1,6 +1,6 @@
 // The desk view.
 ghost use mathlib.Core.Path.{_≡_};
-ghost use Prim.Native.Nat.{_*_, _<_, _≤_};
+ghost use Prim.Native.Nat.{_*_, _<_};
 ghost use lib.ListN.{length};
 ghost use Rattle.plan.specs.Desk.{rowOf, hasRow, deskOf};
 use crate::range::is_square;

@@ -1,24 +1,21 @@
 -- An arrival keeps the switch sound, and adds its cell to one queue.
-use Prim.Native.Nat.{ℕ, _+_, _*_, _%_, _<_, _≤_}
-use mathlib.Core.Path.{_≡_, refl, ap, sym, subst, _∙_}
-use mathlib.Core.Bool.{Bool, true, false, not, cond, _&&_}
+use Prim.Native.Nat.{ℕ, _+_, _*_, _<_, _≤_}
+use mathlib.Core.Path.{_≡_, refl, sym, _∙_}
+use mathlib.Core.Bool.{Bool, true, false, cond, _&&_}
 use mathlib.Core.List.{List, [], _∷_, _++_, append-nil}
 use native.Mathlib.Decide.{ℕ-discrete}
 use native.Mathlib.Nat.{mod-lt}
 use native.Mathlib.Omega.{arith}
-use lib.Dec.{ltb, leb, eqb}
-use lib.ListN.{length, getD, set, length-set}
+use lib.Dec.{eqb}
+use lib.ListN.{length, set, length-set}
 use lib.Seq.{getD-set-same, getD-set-other}
-use borrow.Author.Tests.{ltb-true, leb-false, eqb-true, eq-eqb, ne-eqb, not-false}
+use borrow.Author.Tests.{eqb-true, eq-eqb}
 use Rattle.refusal.specs.declared.Verdict.{Verdict}
 use Rattle.refusal.specs.declared.Verdict.the-variants.{Accepted, Refused}
-use Rattle.refusal.proofs.ChainLaws.{refuse-passed}
 use Rattle.plan.specs.Lines.{flowOf}
-use Rattle.plan.proofs.BelowLaws.{and-true}
 use Rattle.plan.proofs.LineLaws.{flow-below, flow-one, square-small, row-within}
 use Rattle.fabric.specs.Flow.{noQueue, cellPlace}
-use Rattle.crossbar.specs.State.{queueAt, pointAt, storeFits}
-use Rattle.crossbar.specs.Valid.{validOf}
+use Rattle.crossbar.specs.State.{queueAt}
 use Rattle.crossbar.specs.Arrive.{withQueues, longer, arriveVerdict, arriveOf, CanArrive}
 use Rattle.crossbar.proofs.ArriveLaws.{can-arrive}
 use Rattle.fabric.specs.declared.flow.Queue.{Queue}
@@ -28,8 +25,8 @@ use Rattle.runs.specs.Event.Lent.{own, other}
 use Rattle.runs.specs.Event.Call.{arrive}
 use Rattle.runs.specs.Run.{OtherLength, answered}
 use Rattle.runs.specs.Promise.{queueCells}
-use Rattle.runs.proofs.CellLaws.{ringCells, ring-longer, ring-other}
-use Rattle.runs.proofs.LedgerLaws.{Ledger, ledger-still}
+use Rattle.runs.proofs.CellLaws.{ring-longer, ring-other}
+use Rattle.runs.proofs.LedgerLaws.{ledger-still}
 use Rattle.runs.proofs.SoundLaws.{Sound, two-between}
 use Rattle.runs.proofs.FlowPromiseLaws.{EventLaw}
 use Rattle.runs.proofs.QuietLaws.{refused-law, refused-arrival}

@@ -1,7 +1,7 @@
 -- Why two cells are enough: one slot of one flow, over plain numbers. At the beginning of slot t of a frame of T slots the
 -- board has served the flow c times and the head d times, at rate a, and the crosspoint holds x cells.
-use Prim.Native.Nat.{ℕ, suc, _+_, _*_, _<_, _≤_}
-use mathlib.Core.Path.{_≡_, ap}
+use Prim.Native.Nat.{ℕ, _+_, _*_, _<_, _≤_}
+use mathlib.Core.Path.{_≡_}
 use mathlib.Core.Logic.{⊎-elim}
 use native.Mathlib.Nat.{lt-of-mul-lt-mul-right}
 use native.Mathlib.Omega.{arith}

@@ -1,22 +1,19 @@
 -- One call of a run, whichever it is: it keeps the switch sound, gives neither 12 nor 13, and keeps each flow's books.
-use Prim.Native.Nat.{ℕ, _<_, _≤_}
-use mathlib.Core.Path.{_≡_, refl, ap, sym, subst, subst₂, _∙_}
-use mathlib.Core.Bool.{Bool, true}
+use Prim.Native.Nat.{ℕ, _<_}
+use mathlib.Core.Path.{_≡_, refl, sym, subst}
 use mathlib.Core.List.{List}
 use lib.ListN.{length}
 use Rattle.refusal.specs.declared.Verdict.{Verdict}
 use Rattle.refusal.specs.declared.Verdict.the-variants.{Accepted, Refused}
-use Rattle.crossbar.specs.Valid.{validOf}
 use Rattle.crossbar.specs.Arrive.{arriveVerdict, arriveOf}
 use Rattle.crossbar.specs.Load.{loadVerdict, loadOf}
-use Rattle.crossbar.specs.Takeover.{takeoverOf}
-use Rattle.crossbar.specs.Step.{afterSlot, hasRoom, stepVerdict, stepOf}
+use Rattle.crossbar.specs.Step.{afterSlot, stepVerdict, stepOf}
 use Rattle.crossbar.specs.declared.state.Switch.{Switch}
-use Rattle.runs.specs.Event.{Lent, Call, Event, callOf, stateAfter, storeAfter}
+use Rattle.runs.specs.Event.{Call, Event, callOf, stateAfter, storeAfter}
 use Rattle.runs.specs.Event.Lent.{own, other}
 use Rattle.runs.specs.Event.Call.{step, arrive, load}
 use Rattle.runs.specs.Event.Event.{stepped, arrived, loaded}
-use Rattle.runs.specs.Run.{OtherLength, Happens, answered}
+use Rattle.runs.specs.Run.{Happens, answered}
 use Rattle.runs.specs.Promise.{verdictIn}
 use Rattle.runs.proofs.RunLaws.{Allowed, happens-answered}
 use Rattle.runs.proofs.SoundLaws.{Sound}

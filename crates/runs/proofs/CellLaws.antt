@@ -4,11 +4,11 @@ use mathlib.Core.Path.{_≡_, refl, ap, sym, _∙_}
 use mathlib.Core.Bool.{cond}
 use lib.Dec.{ltb}
 use mathlib.Core.Logic.{_⊎_, inl, inr, ⊎-elim}
-use mathlib.Core.List.{List, [], _∷_, _++_, append-assoc, append-nil}
+use mathlib.Core.List.{List, [], _∷_, _++_}
 use native.Mathlib.Nat.{mod-eq-of-lt, mod-eq-sub-mod, mod-lt, mod-add-mod}
 use native.Mathlib.Numerals.{add-one}
 use native.Mathlib.Omega.{arith}
-use lib.ListN.{length, getD, set, take, length-set}
+use lib.ListN.{length, getD, set, take}
 use lib.Seq.{getD-set-same, getD-set-other, take-suc-set}
 use Rattle.plan.proofs.BelowLaws.{lt-or-le}
 use Rattle.plan.proofs.LineLaws.{row-within}

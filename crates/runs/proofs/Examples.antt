@@ -2,7 +2,7 @@
 -- in slots 1, 7 and 13: slot 7 is empty, and after slot 12 the crossing holds two cells.
 use Prim.Native.Nat.{ℕ, zero, suc}
 use mathlib.Core.Path.{_≡_, refl}
-use mathlib.Core.List.{List, [], _∷_, _++_}
+use mathlib.Core.List.{List, [], _∷_}
 use lib.ListN.{replicate}
 use Rattle.refusal.specs.declared.Verdict.the-variants.{Accepted}
 use Rattle.plan.specs.Lines.{rowSum, columnSum}
@@ -23,7 +23,7 @@ use Rattle.fabric.specs.Moves.{moveOf, boardMoves, movesOf, roomFor, roomForAll
 use Rattle.fabric.specs.Sends.{sendOf, headSends, sendsOf}
 use Rattle.fabric.specs.Counts.{countsOf}
 use Rattle.crossbar.specs.Step.{afterSlot, stepVerdict, stepOf}
-use Rattle.runs.specs.Event.{Call, Event, stateAfter}
+use Rattle.runs.specs.Event.{Call, Event}
 use Rattle.runs.specs.Event.Lent.{own}
 use Rattle.runs.specs.Event.Call.{step, arrive}
 use Rattle.runs.specs.Event.Event.{stepped, arrived, loaded}

@@ -1,6 +1,6 @@
 -- From one event to every run: where each event keeps what is known of the switch, and each flow's books, the promise holds.
-use Prim.Native.Nat.{ℕ, suc, _+_, _*_, _<_, _≤_}
-use mathlib.Core.Path.{_≡_, refl, ap, sym, subst, _∙_}
+use Prim.Native.Nat.{ℕ, _+_, _*_, _≤_}
+use mathlib.Core.Path.{_≡_, ap, sym, subst, _∙_}
 use mathlib.Core.Logic.{⊎-elim}
 use mathlib.Core.List.{List, [], _∷_, _++_, append-assoc, append-nil}
 use native.Mathlib.Nat.{le-mul-of-pos-right, zero-mul, zero-div}
@@ -9,12 +9,12 @@ use lib.ListN.{length, length-append}
 use Rattle.plan.specs.Lines.{flowOf}
 use Rattle.crossbar.specs.declared.state.Switch.{Switch}
 use Rattle.runs.specs.Event.{Event, stateAfter, storeAfter}
-use Rattle.runs.specs.Run.{Run, Happens, Follow, finalState, finalStore}
-use Rattle.runs.specs.Flow.{collect, total, acceptedIn, movedIn, leftIn, boardEmptyIn, accepted, moved, left, slots, NeverEmpty, HasRate, shareUp, shareDown}
-use Rattle.runs.specs.Promise.{pointCells, queueCells, Holds, FlowPromise}
+use Rattle.runs.specs.Run.{Happens, Follow, finalState, finalStore}
+use Rattle.runs.specs.Flow.{collect, acceptedIn, movedIn, leftIn, accepted, moved, left, slots, NeverEmpty, HasRate, shareUp, shareDown}
+use Rattle.runs.specs.Promise.{pointCells, queueCells, Holds}
 use Rattle.runs.proofs.RunLaws.{collect-append, total-append, final-state-append, follow-append}
-use Rattle.runs.proofs.ShareLaws.{Near, Share, share-at-most, share-at-least}
-use Rattle.runs.proofs.LedgerLaws.{headEmptyIn, held, byBoard, byHead, headServices, Edges, Ledger, ledger-none, ledger-append}
+use Rattle.runs.proofs.ShareLaws.{Near, share-at-most, share-at-least}
+use Rattle.runs.proofs.LedgerLaws.{headEmptyIn, held, byBoard, byHead, headServices, Ledger, ledger-none, ledger-append}
 
 -- one event, for the flow (i, j) of a switch of n ports and frames of T slots
 pub record EventLaw (n T i j : ℕ) (s : Switch) (store : List ℕ) (e : Event) : Type 0 where

@@ -1,21 +1,13 @@
 -- A load keeps the switch sound, and touches no flow.
-use Prim.Native.Nat.{ℕ, _*_, _<_, _≤_}
-use mathlib.Core.Path.{_≡_, refl, sym, subst, _∙_}
-use mathlib.Core.Bool.{Bool, true, false, not, _&&_}
+use Prim.Native.Nat.{ℕ, _*_, _<_}
+use mathlib.Core.Path.{_≡_, refl, sym, _∙_}
+use mathlib.Core.Bool.{true}
 use mathlib.Core.List.{List}
 use native.Mathlib.Omega.{arith}
-use lib.Dec.{eqb}
-use lib.ListN.{length}
-use borrow.Author.Tests.{eqb-true, not-false}
 use Rattle.refusal.specs.declared.Verdict.{Verdict}
 use Rattle.refusal.specs.declared.Verdict.the-variants.{Accepted, Refused}
-use Rattle.refusal.proofs.ChainLaws.{refuse-passed, then-passed}
-use Rattle.plan.specs.Accept.{acceptOf, IsPlan}
 use Rattle.plan.specs.declared.Plan.{Plan}
-use Rattle.plan.proofs.BelowLaws.{and-true}
-use Rattle.plan.proofs.AcceptLaws.{accepted}
 use Rattle.plan.proofs.LineLaws.{square-small}
-use Rattle.crossbar.specs.Valid.{validOf}
 use Rattle.crossbar.specs.Rates.{overlaid}
 use Rattle.crossbar.specs.Load.{withPlans, loadVerdict, loadOf, CanLoad}
 use Rattle.crossbar.proofs.LoadLaws.{can-load}

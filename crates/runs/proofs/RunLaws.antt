@@ -1,11 +1,11 @@
 -- Runs as lists: they are cut and joined, and each is what the definitions make of its calls.
 use Prim.Native.Nat.{ℕ, _+_}
-use mathlib.Core.Path.{_≡_, refl, ap, ap₂, sym, _∙_}
+use mathlib.Core.Path.{_≡_, refl, ap, sym}
 use mathlib.Core.List.{List, [], _∷_, _++_, append-assoc}
 use native.Mathlib.Omega.{arith}
 use Rattle.crossbar.specs.Arrive.{Arrival}
 use Rattle.crossbar.specs.declared.state.Switch.{Switch}
-use Rattle.runs.specs.Event.{Lent, Call, Event, callOf, stateAfter, storeAfter}
+use Rattle.runs.specs.Event.{Call, Event, callOf, stateAfter, storeAfter}
 use Rattle.runs.specs.Event.Lent.{own, other}
 use Rattle.runs.specs.Event.Call.{step, arrive, load}
 use Rattle.runs.specs.Event.Event.{stepped, arrived, loaded}

@@ -1,7 +1,7 @@
 -- From services counted in frames to shares of a stretch: the arithmetic of demand 3, over plain numbers.
-use Prim.Native.Nat.{ℕ, suc, _+_, _-_, _*_, _/_, _<_, _≤_}
+use Prim.Native.Nat.{ℕ, _+_, _-_, _*_, _<_, _≤_}
 use mathlib.Core.Path.{_≡_}
-use native.Mathlib.Nat.{lt-of-mul-lt-mul-right, le-div-iff-mul-le, div-lt-iff-lt-mul, div-mul-le-self, lt-div-mul-add}
+use native.Mathlib.Nat.{lt-of-mul-lt-mul-right, div-mul-le-self, lt-div-mul-add}
 use native.Mathlib.Omega.{arith}
 use Rattle.runs.specs.Flow.{shareUp, shareDown}
 

@@ -1,7 +1,7 @@
 -- What is known of the switch between any two calls of a run.
-use Prim.Native.Nat.{ℕ, suc, _+_, _*_, _<_, _≤_}
-use mathlib.Core.Path.{_≡_, refl, ap, sym, subst, _∙_}
-use mathlib.Core.Bool.{Bool, true, false}
+use Prim.Native.Nat.{ℕ, _+_, _*_, _<_, _≤_}
+use mathlib.Core.Path.{_≡_}
+use mathlib.Core.Bool.{true}
 use mathlib.Core.List.{List}
 use native.Mathlib.Nat.{lt-of-mul-lt-mul-right}
 use native.Mathlib.Omega.{arith}
@@ -11,7 +11,7 @@ use Rattle.plan.specs.Desk.{rowOf}
 use Rattle.plan.specs.Accept.{IsPlan}
 use Rattle.plan.specs.declared.Plan.{Plan}
 use Rattle.multiplexer.specs.Window.{columnOf}
-use Rattle.multiplexer.proofs.PacedLaws.{Paced, paced-early, paced-late, paced-within, paced-full}
+use Rattle.multiplexer.proofs.PacedLaws.{Paced, paced-early, paced-late, paced-within}
 use Rattle.multiplexer.proofs.PortLaws.{row-length, row-rate, column-length, column-rate}
 use Rattle.fabric.specs.Flow.{noMultiplexer}
 use Rattle.crossbar.specs.State.{queueAt, pointAt, planRates, rateAt, boardCount, headCount}

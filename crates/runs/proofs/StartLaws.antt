@@ -1,19 +1,17 @@
 -- A run begins soundly.
-use Prim.Native.Nat.{ℕ, _+_, _*_, _<_, _≤_}
-use mathlib.Core.Path.{_≡_, refl, ap, sym, subst, _∙_}
+use Prim.Native.Nat.{ℕ, _*_, _<_}
+use mathlib.Core.Path.{_≡_, refl, ap, _∙_}
 use mathlib.Core.Bool.{true, false, false≢true}
-use mathlib.Core.List.{List, []}
+use mathlib.Core.List.{List}
 use native.Mathlib.Omega.{arith}
 use lib.ListN.{length, getD, replicate, length-replicate, getD-replicate}
 use Rattle.plan.specs.Lines.{flowOf}
-use Rattle.plan.specs.declared.Plan.{Plan}
 use Rattle.plan.proofs.LineLaws.{flow-below, square-small}
 use Rattle.multiplexer.specs.Window.{FrameStart}
 use Rattle.multiplexer.proofs.PacedLaws.{paced-start}
 use Rattle.multiplexer.proofs.PortLaws.{row-length, row-fits, column-length, column-fits}
 use Rattle.fabric.specs.Flow.{noQueue, noPoint, noMultiplexer}
-use Rattle.crossbar.specs.State.{planRates, queueAt, pointAt, boardCount, headCount}
-use Rattle.crossbar.specs.Rates.{overlaid}
+use Rattle.crossbar.specs.State.{queueAt, pointAt, boardCount, headCount}
 use Rattle.crossbar.specs.Start.{emptyQueue, emptyPoint, restedPort, freshWith, planOf, CanStart}
 use Rattle.fabric.specs.declared.flow.Crosspoint.{Crosspoint}
 use Rattle.crossbar.specs.declared.state.Switch.{Switch}

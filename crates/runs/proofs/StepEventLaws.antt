@@ -1,34 +1,31 @@
 -- A step as an event of a run: it is accepted on the run's own store, and keeps each flow's books.
-use Prim.Native.Nat.{ℕ, suc, _+_, _*_, _<_, _≤_}
+use Prim.Native.Nat.{ℕ, _*_, _<_}
 use mathlib.Core.Path.{_≡_, refl, ap, sym, subst, subst₂, _∙_}
-use mathlib.Core.Bool.{Bool, true, false, not, _&&_}
-use mathlib.Core.Logic.{_⊎_, inl, inr}
-use mathlib.Core.List.{List, [], _∷_, _++_, append-nil}
+use mathlib.Core.Bool.{Bool, true, false, not}
+use mathlib.Core.Logic.{inr}
+use mathlib.Core.List.{List, [], _∷_, append-nil}
 use native.Mathlib.Omega.{arith}
 use lib.Dec.{eqb}
-use lib.ListN.{length, length-append}
+use lib.ListN.{length}
 use borrow.Author.Tests.{eq-eqb, eqb-true, not-false}
 use Rattle.refusal.specs.declared.Verdict.{Verdict}
 use Rattle.refusal.specs.declared.Verdict.the-variants.{Accepted, Refused}
 use Rattle.refusal.proofs.ChainLaws.{refuse-passed}
-use Rattle.plan.specs.Lines.{flowOf}
 use Rattle.plan.specs.declared.Plan.{Plan}
-use Rattle.crossbar.specs.State.{rateAt, storeFits}
+use Rattle.crossbar.specs.State.{storeFits}
 use Rattle.crossbar.specs.Valid.{validOf}
 use Rattle.crossbar.specs.Load.{withPlans}
 use Rattle.crossbar.specs.Takeover.{takesOver, takeoverOf, replaced, cleared}
-use Rattle.crossbar.specs.Step.{slotMoves, slotSends, hasRoom, afterSlot, stepVerdict, stepOf}
+use Rattle.crossbar.specs.Step.{slotMoves, slotSends, afterSlot, stepVerdict, stepOf}
 use Rattle.crossbar.specs.declared.state.Switch.{Switch}
-use Rattle.crossbar.specs.declared.state.SlotReply.{SlotReply}
 use Rattle.crossbar.proofs.TakeoverLaws.{taken, not-taken}
-use Rattle.runs.specs.Event.{Lent, Event, stateAfter, storeAfter}
+use Rattle.runs.specs.Event.{Lent, Event, stateAfter}
 use Rattle.runs.specs.Event.Lent.{own, other}
 use Rattle.runs.specs.Event.Call.{step}
 use Rattle.runs.specs.Event.Event.{stepped}
 use Rattle.runs.specs.Run.{OtherLength, answered}
-use Rattle.runs.specs.Flow.{collect, total, HasRate, left, moved, leftIn, movedIn}
+use Rattle.runs.specs.Flow.{collect, total, left, moved, leftIn, movedIn}
 use Rattle.runs.proofs.LedgerLaws.{Ledger}
-use Rattle.runs.proofs.ShareLaws.{Near, Share}
 use Rattle.runs.proofs.SoundLaws.{Sound, head-near}
 use Rattle.runs.proofs.SlotLaws.{slot-room, slot-cells, slot-crossing, slot-empties, slot-share, slot-near}
 use Rattle.runs.proofs.StepLaws.{flow-slot, slot-sound, has-room}

@@ -2,15 +2,15 @@
 use Prim.Native.Nat.{ℕ, suc, _+_, _*_, _<_, _≤_, min}
 use mathlib.Core.Path.{_≡_, refl, ap, sym, subst, _∙_}
 use mathlib.Core.Bool.{Bool, true, false, cond, or-true}
-use mathlib.Core.Logic.{_⊎_, inl, inr, ⊎-elim}
-use mathlib.Core.List.{List, [], _∷_, _++_}
+use mathlib.Core.Logic.{_⊎_, ⊎-elim}
+use mathlib.Core.List.{List, []}
 use native.Mathlib.Decide.{ℕ-discrete}
 use native.Mathlib.Omega.{arith}
 use native.Mathlib.Numerals.{add-one}
 use native.Mathlib.Nat.{lt-of-mul-lt-mul-right}
 use lib.Dec.{eqb}
 use lib.ListN.{length, getD}
-use borrow.Author.Tests.{lt-ltb, eqb-true, eqb-false, eq-eqb, ne-eqb}
+use borrow.Author.Tests.{lt-ltb, eqb-true, eqb-false, ne-eqb}
 use Rattle.plan.specs.Lines.{flowOf}
 use Rattle.plan.specs.Desk.{rowOf}
 use Rattle.plan.proofs.BelowLaws.{all-intro, lt-or-le}
@@ -28,14 +28,12 @@ use Rattle.crossbar.specs.State.{queueAt, pointAt, planRates, rateAt, boardCoun
 use Rattle.fabric.specs.Answer.{cellsWith, answerOf}
 use Rattle.fabric.specs.Choices.{choiceAt, NamesBelow, CanChoose}
 use Rattle.crossbar.specs.Step.{boardChoices, headChoices}
-use Rattle.fabric.specs.Moves.{movesOf, moveOf, roomForAll, roomFor}
-use Rattle.fabric.specs.Sends.{sendsOf, sendOf}
-use Rattle.fabric.specs.Counts.{countsOf, portAfter}
+use Rattle.fabric.specs.Moves.{roomForAll, roomFor}
+use Rattle.fabric.specs.Counts.{portAfter}
 use Rattle.crossbar.specs.Step.{slotMoves, slotSends, hasRoom, endsFrame, afterSlot}
 use Rattle.fabric.specs.declared.moves.Moves.{Moves}
 use Rattle.fabric.specs.declared.sends.Sends.{Sends}
 use Rattle.fabric.specs.declared.flow.Answer.{Answer}
-use Rattle.fabric.specs.declared.flow.Answer.the-variants as answer
 use Rattle.fabric.specs.declared.flow.Crosspoint.{Crosspoint}
 use Rattle.crossbar.specs.declared.state.Switch.{Switch}
 use Rattle.fabric.proofs.ChoiceLaws.{choices-at}

@@ -1,30 +1,26 @@
 -- A takeover keeps the switch sound: it falls in slot 0, where every port begins a frame.
-use Prim.Native.Nat.{ℕ, suc, _+_, _*_, _<_, _≤_}
-use mathlib.Core.Path.{_≡_, refl, ap, sym, subst, subst₂, _∙_}
-use mathlib.Core.Bool.{Bool, true, false, _&&_, false≢true}
+use Prim.Native.Nat.{ℕ, _*_, _<_}
+use mathlib.Core.Path.{_≡_, refl, sym, subst, subst₂, _∙_}
+use mathlib.Core.Bool.{Bool, true, false, false≢true}
 use mathlib.Core.List.{List, []}
 use native.Mathlib.Nat.{lt-of-mul-lt-mul-right}
 use native.Mathlib.Omega.{arith}
 use lib.Dec.{eqb}
-use lib.ListN.{length, getD, take}
-use lib.Seq.{length-take-le}
+use lib.ListN.{length, getD}
 use borrow.Author.Tests.{eqb-true}
-use Rattle.plan.specs.Lines.{flowOf}
 use Rattle.plan.specs.Desk.{rowOf}
 use Rattle.plan.specs.Accept.{IsPlan}
 use Rattle.plan.specs.declared.Plan.{Plan}
 use Rattle.plan.proofs.BelowLaws.{and-true}
-use Rattle.plan.proofs.LineLaws.{square-small}
 use Rattle.multiplexer.specs.Window.{columnOf, FrameStart}
 use Rattle.multiplexer.proofs.PacedLaws.{Paced, paced-start, paced-early, paced-full}
 use Rattle.multiplexer.proofs.PortLaws.{row-length, row-fits, column-length, column-fits}
 use Rattle.fabric.specs.Flow.{noMultiplexer}
 use Rattle.crossbar.specs.State.{planRates}
-use Rattle.crossbar.specs.Rates.{overlaid}
 use Rattle.crossbar.specs.Load.{withPlans}
 use Rattle.crossbar.specs.Takeover.{replaced, cleared, takesOver, takeoverOf}
 use Rattle.crossbar.specs.declared.state.Switch.{Switch}
-use Rattle.crossbar.proofs.RateLaws.{overlaid-length, overlaid-part, take-overlaid}
+use Rattle.crossbar.proofs.RateLaws.{overlaid-length}
 use Rattle.crossbar.proofs.TakeoverLaws.{taken, not-taken, taken-rates}
 use Rattle.runs.proofs.SoundLaws.{Sound, PlanIn}
 

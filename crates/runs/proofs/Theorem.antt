@@ -1,5 +1,5 @@
 -- Every run has the promise.
-use Prim.Native.Nat.{ℕ, _+_, _*_, _<_, _≤_}
+use Prim.Native.Nat.{ℕ, _+_, _<_, _≤_}
 use mathlib.Core.Path.{_≡_, refl, ap, sym, subst, subst₂, _∙_}
 use mathlib.Core.List.{List, [], _∷_, _++_}
 use native.Mathlib.Omega.{arith}
@@ -19,13 +19,12 @@ use Rattle.crossbar.proofs.StartLaws.{can-start}
 use Rattle.runs.specs.Event.{Event, stateAfter, storeAfter}
 use Rattle.runs.specs.Run.{Run, Happens, Follow, finalState, finalStore, definedRun, callsOf}
 use Rattle.runs.specs.Flow.{accepted, moved, left}
-use Rattle.runs.specs.Promise.{pointCells, queueCells, verdictIn, FlowPromise, Promise}
+use Rattle.runs.specs.Promise.{pointCells, queueCells, FlowPromise, Promise}
 use Rattle.runs.proofs.RunLaws.{follow-defined, follow-append}
 use Rattle.runs.proofs.SoundLaws.{Sound, ahead-between, two-between}
 use Rattle.runs.proofs.StartLaws.{sound-start, point-is, queue-is, board-zero, head-zero}
-use Rattle.runs.proofs.VerdictLaws.{Fine}
 use Rattle.runs.proofs.CallLaws.{Keeps, event-keeps}
-use Rattle.runs.proofs.FlowPromiseLaws.{EventLaw, FlowState, holds-between, holds-midway, crossing-run, queue-run, at-most, at-least, at-least-since-start, sound-run}
+use Rattle.runs.proofs.FlowPromiseLaws.{EventLaw, FlowState, holds-between, holds-midway, crossing-run, queue-run, at-most, at-least, at-least-since-start}
 
 module _ (run : Run) where
   abbrev n : ℕ

@@ -1,18 +1,18 @@
 -- What one slot's service, or none, makes of a flow: its queue and crosspoint, the cells that its ports answer, and how
 -- often they answer "empty".
-use Prim.Native.Nat.{ℕ, _+_, _-_, _*_, _%_, _<_, _≤_}
-use mathlib.Core.Path.{_≡_, refl, ap, sym, _∙_}
+use Prim.Native.Nat.{ℕ, _+_, _-_, _<_, _≤_}
+use mathlib.Core.Path.{_≡_, refl, sym, _∙_}
 use mathlib.Core.Bool.{Bool, true, false, cond}
-use mathlib.Core.List.{List, [], _∷_, _++_, append-nil}
+use mathlib.Core.List.{List, [], _++_, append-nil}
 use native.Mathlib.Nat.{mod-lt}
 use native.Mathlib.Omega.{arith}
 use lib.Dec.{eqb, ltb}
-use lib.ListN.{length, getD, set, take, length-set}
+use lib.ListN.{length, getD, set, length-set}
 use borrow.Author.Tests.{eqb-true, eqb-false, eq-eqb, ne-eqb}
 use Rattle.fabric.specs.Flow.{cellPlace}
 use Rattle.fabric.specs.Answer.{cellsWith, emptyWith}
-use Rattle.fabric.specs.Moves.{moveOf, shorter, filled}
-use Rattle.fabric.specs.Sends.{sendOf, movedUp}
+use Rattle.fabric.specs.Moves.{moveOf, shorter}
+use Rattle.fabric.specs.Sends.{sendOf}
 use Rattle.fabric.specs.declared.flow.Answer.{Answer}
 use Rattle.fabric.specs.declared.flow.Queue.{Queue}
 use Rattle.fabric.specs.declared.flow.Crosspoint.{Crosspoint}
@@ -38,20 +38,27 @@ pub record HeadTurn (x x' : Crosspoint) (h : ℕ) (cells : List ℕ) (empty : �
   pub dry : 1 ≤ empty → x .count ≡ 0
   pub size : length (x' .cells) ≡ 2
 
-pub board-idle : (store : List ℕ) (depth k : ℕ) (q : Queue) (x : Crosspoint) → q .place < depth → length (x .cells) ≡ 2 → BoardTurn store depth k q q x x 0 [] 0
-board-idle store depth k q x hp hx =
+-- b services, or none, that find no cell
+board-no-cell : (store : List ℕ) (depth k : ℕ) (q : Queue) (x : Crosspoint) (b : ℕ) → q .place < depth → length (x .cells) ≡ 2 → BoardTurn store depth k q q x x b [] b
+board-no-cell store depth k q x b hp hx =
     record {
       from-queue = refl;
       to-point = append-nil _;
       count = omega arith;
-      split = refl;
+      split = omega arith;
       place = hp;
       shorter = omega arith;
       size = hx;
     }
 
+head-no-cell : (x : Crosspoint) (h : ℕ) → (1 ≤ h → x .count ≡ 0) → length (x .cells) ≡ 2 → HeadTurn x x h [] h
+head-no-cell x h dry hx = record { from-point = refl; count = omega arith; split = omega arith; dry = dry; size = hx }
+
+pub board-idle : (store : List ℕ) (depth k : ℕ) (q : Queue) (x : Crosspoint) → q .place < depth → length (x .cells) ≡ 2 → BoardTurn store depth k q q x x 0 [] 0
+board-idle store depth k q x hp hx = board-no-cell store depth k q x 0 hp hx
+
 pub head-idle : (x : Crosspoint) → length (x .cells) ≡ 2 → HeadTurn x x 0 [] 0
-head-idle x hx = record { from-point = refl; count = omega arith; split = refl; dry = λ (h : 1 ≤ 0). absurd (omega arith); size = hx }
+head-idle x hx = head-no-cell x 0 (λ (h : 1 ≤ 0). absurd (omega arith)) hx
 
 -- as many as an answer says
 abbrev pub empties : ℕ → Answer → ℕ
@@ -66,16 +73,7 @@ module _ (store : List ℕ) (depth k j : ℕ) (q : Queue) (x : Crosspoint) (some
   board-serves room = go (eqb (q .count) 0) refl
     where
       go : (b : Bool) → eqb (q .count) 0 ≡ b → After (moveOf depth j (getD store (cellPlace depth k q 0) 0) q x)
-      go true e = rw (e, eq-eqb j j refl) (
-          record {
-            from-queue = refl;
-            to-point = append-nil _;
-            count = omega arith;
-            split = refl;
-            place = hp;
-            shorter = omega arith;
-            size = hx;
-          })
+      go true e = rw (e, eq-eqb j j refl) (board-no-cell store depth k q x 1 hp hx)
       go false e =
           let ne = eqb-false (q .count) 0 e in
           let full : 1 ≤ q .count = omega arith in
@@ -103,8 +101,7 @@ module _ (i : ℕ) (x : Crosspoint) (hx : length (x .cells) ≡ 2) (two : x .cou
   head-serves = go (eqb (x .count) 0) refl
     where
       go : (b : Bool) → eqb (x .count) 0 ≡ b → Sent (sendOf i x)
-      go true e = rw (e, eq-eqb i i refl) (
-          record { from-point = refl; count = omega arith; split = refl; dry = λ _. eqb-true (x .count) 0 e; size = hx })
+      go true e = rw (e, eq-eqb i i refl) (head-no-cell x 1 (λ _. eqb-true (x .count) 0 e) hx)
       go false e =
           let ne = eqb-false (x .count) 0 e in
           rw (e, eq-eqb i i refl) (

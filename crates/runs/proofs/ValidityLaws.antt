@@ -1,16 +1,14 @@
 -- A sound switch is valid: number 12 has no reason.
-use Prim.Native.Nat.{ℕ, _+_, _*_, _/_, _%_, _<_, _≤_}
-use mathlib.Core.Path.{_≡_, refl, ap, sym, subst, subst₂, _∙_}
-use mathlib.Core.Bool.{Bool, true}
+use Prim.Native.Nat.{ℕ, _*_, _/_, _%_, _<_, _≤_}
+use mathlib.Core.Path.{_≡_, ap, sym, subst, subst₂}
+use mathlib.Core.Bool.{true}
 use mathlib.Core.List.{List}
 use native.Mathlib.Nat.{lt-of-mul-lt-mul-right, div-add-mod', div-lt-iff-lt-mul, mod-lt}
 use native.Mathlib.Omega.{arith}
-use lib.ListN.{getD}
 use Rattle.plan.specs.Lines.{flowOf}
 use Rattle.plan.specs.Accept.{IsPlan}
-use Rattle.crossbar.specs.State.{queueAt, pointAt, planRates, rateAt, boardCount, headCount}
-use Rattle.crossbar.specs.Valid.{validOf, IsValid}
-use Rattle.fabric.specs.declared.flow.Queue.{Queue}
+use Rattle.crossbar.specs.State.{queueAt, pointAt, planRates}
+use Rattle.crossbar.specs.Valid.{validOf}
 use Rattle.crossbar.specs.declared.state.Switch.{Switch}
 use Rattle.crossbar.proofs.ValidLaws.{is-valid}
 use Rattle.runs.proofs.ShareLaws.{Near}

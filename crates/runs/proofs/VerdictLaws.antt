@@ -1,11 +1,10 @@
 -- In a valid state with room in each crosspoint that is served, no call answers 12 or 13.
 use Prim.Native.Nat.{ℕ}
-use mathlib.Core.Path.{_≡_, refl}
+use mathlib.Core.Path.{_≡_}
 use mathlib.Core.Bool.{Bool, true, false, not, _&&_}
 use mathlib.Core.List.{List}
 use native.Mathlib.Omega.{arith}
 use lib.Dec.{ltb, leb, eqb}
-use lib.ListN.{length}
 use Rattle.refusal.specs.Chain.{refuseIf, andThen}
 use Rattle.refusal.specs.Number.{numberOf, verdictNumberOf}
 use Rattle.refusal.specs.declared.Refusal.{Refusal}

@@ -1,14 +1,14 @@
 -- What a list of events says of one flow (i, j), read off the calls and the answers.
 use Prim.Native.Nat.{ℕ, _+_, _-_, _*_, _/_}
 use mathlib.Core.Path.{_≡_}
-use mathlib.Core.Bool.{Bool, true, false, cond, _&&_}
+use mathlib.Core.Bool.{cond, _&&_}
 use mathlib.Core.List.{List, [], _∷_, _++_}
 use lib.Dec.{eqb}
 use Rattle.refusal.specs.Chain.{ifAccepted}
 use Rattle.refusal.specs.declared.Verdict.the-variants.{Accepted}
 use Rattle.crossbar.specs.State.{rateAt}
 use Rattle.fabric.specs.Answer.{cellsWith, emptyWith, answerOf}
-use Rattle.runs.specs.Event.{Lent, Event}
+use Rattle.runs.specs.Event.{Event}
 use Rattle.runs.specs.Event.Event.{stepped, arrived, loaded}
 
 -- f of each event, one after the other

@@ -1,5 +1,5 @@
 -- What is promised of every run: demand 3, and the sentences under "Runs" in the scope, for each flow (i, j) of the switch.
-use Prim.Native.Nat.{ℕ, _+_, _*_, _<_, _≤_}
+use Prim.Native.Nat.{ℕ, _+_, _<_, _≤_}
 use mathlib.Core.Path.{_≡_}
 use mathlib.Core.List.{List, [], _∷_, _++_}
 use lib.ListN.{length, take, getD}

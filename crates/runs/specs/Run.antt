@@ -12,7 +12,7 @@ use Rattle.crossbar.specs.Load.{Loads, loadOf}
 use Rattle.crossbar.specs.Step.{Steps, stepOf}
 use Rattle.crossbar.specs.declared.state.Switch.{Switch}
 use Rattle.crossbar.specs.declared.state.Reply.{Reply}
-use Rattle.runs.specs.Event.{Lent, Call, Event, callOf, stateAfter, storeAfter}
+use Rattle.runs.specs.Event.{Call, Event, callOf, stateAfter, storeAfter}
 use Rattle.runs.specs.Event.Lent.{own, other}
 use Rattle.runs.specs.Event.Call.{step, arrive, load}
 use Rattle.runs.specs.Event.Event.{stepped, arrived, loaded}

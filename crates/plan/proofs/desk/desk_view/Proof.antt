@@ -6,10 +6,6 @@ use Rattle.plan.proofs.TestLaws.{failed, passed}
 use Rattle.plan.proofs.DeskLaws.{HasRow, has-row}
 use Rattle.plan.proofs.desk.desk_view.Statement.{statement}
 use Rattle.plan.proofs.desk.desk_view.Tie as tie
-use Rattle.plan.proofs.desk.desk_view.Reads as reads
-use Rattle.plan.proofs.desk.desk_view.Lts as lts
-use Rattle.plan.proofs.desk.has_row.Reads as has-row-reads
-use Rattle.plan.proofs.desk.row.Reads as row-reads
 
 has-row-requires : tie.Need-has-row-requires
 has-row-requires c κs = search needs

@@ -8,10 +8,6 @@ use Rattle.plan.specs.Range.{portsInRange}
 use Rattle.plan.specs.Desk.{hasRow}
 use Rattle.plan.proofs.desk.has_row.Statement.{statement}
 use Rattle.plan.proofs.desk.has_row.Tie as tie
-use Rattle.plan.proofs.desk.has_row.Reads as reads
-use Rattle.plan.proofs.desk.has_row.Lts as lts
-use Rattle.plan.proofs.range.is_square.Reads as is-square-reads
-use Rattle.plan.proofs.range.ports_in_range.Reads as ports-in-range-reads
 
 ports-in-range-requires : tie.Need-ports-in-range-requires
 ports-in-range-requires c κs = search needs

@@ -4,8 +4,6 @@ use native.Mathlib.Nat.{add-sub-cancel-left}
 use Rattle.plan.proofs.LineLaws.{row-within}
 use Rattle.plan.proofs.desk.row.Statement.{statement}
 use Rattle.plan.proofs.desk.row.Tie as tie
-use Rattle.plan.proofs.desk.row.Reads as reads
-use Rattle.plan.proofs.desk.row.Lts as lts
 
 mul-start : tie.Need-mul-start
 mul-start c = omega (arith, row-within _ _ (c .args .n) (c .pre .0))

@@ -1,6 +1,6 @@
 use borrow.Author.Needs.{needs}
-use Prim.Native.Nat.{ℕ, _+_, _*_, _-_, _<_, _≤_}
-use mathlib.Core.Path.{_≡_, refl, sym, ap, _∙_}
+use Prim.Native.Nat.{_+_, _*_, _-_, _<_, _≤_}
+use mathlib.Core.Path.{_≡_, ap, _∙_}
 use native.Mathlib.Omega.{arith}
 use native.Mathlib.Numerals.{add-one}
 use denote.Ref.{now}
@@ -9,9 +9,6 @@ use Rattle.plan.specs.Below.{sumBelow}
 use Rattle.plan.specs.Lines.{lineSum}
 use Rattle.plan.proofs.lines.line_sum.Statement.{statement}
 use Rattle.plan.proofs.lines.line_sum.Tie as tie
-use Rattle.plan.proofs.lines.line_sum.Reads as reads
-use Rattle.plan.proofs.lines.line_sum.Lts as lts
-use Rattle.plan.proofs.lines.wide.Reads as wide-reads
 
 abbrev Inv-loop : tie.InvT-loop
 Inv-loop list n across along k sum₀ m₀ sum m = (m ≤ n) × (sum ≤ 65535 * m) × (sum ≡ sumBelow (λ j. getD list (k * across + j * along) 0) m)

@@ -1,7 +1,7 @@
 use borrow.Author.Needs.{needs}
 use Prim.Native.Nat.{ℕ, _-_, _≤_}
 use mathlib.Core.Bool.{true, false}
-use mathlib.Core.Path.{_≡_, refl, sym, ap, _∙_}
+use mathlib.Core.Path.{_≡_, sym, ap, _∙_}
 use native.Mathlib.Omega.{arith}
 use native.Mathlib.Numerals.{add-one}
 use lib.Dec.{leb}
@@ -12,9 +12,6 @@ use Rattle.plan.specs.Accept.{withinFrame}
 use Rattle.plan.proofs.BelowLaws.{all-fails}
 use Rattle.plan.proofs.lines.lines_fit.Statement.{statement}
 use Rattle.plan.proofs.lines.lines_fit.Tie as tie
-use Rattle.plan.proofs.lines.lines_fit.Reads as reads
-use Rattle.plan.proofs.lines.lines_fit.Lts as lts
-use Rattle.plan.proofs.lines.line_sum.Reads as line-sum-reads
 
 abbrev Inv-loop : tie.InvT-loop
 Inv-loop list n across along t k₀ k = (k ≤ n) × (withinFrame (lineSum list n across along) k t ≡ true)
