@@ -48,7 +48,7 @@ pub fn c3_crossing_fills<S: Operations>() {
     let mut state = start::<S>(3, C3_FRAME, &C3_PLAN, 4, &store);
     let (mut board_slots, mut head_slots, mut empty_slots, mut held) = (vec![], vec![], vec![], vec![]);
     for slot in 0..C3_FRAME {
-        while state.queues[FLOW].count < 4 {
+        for _ in state.queues[FLOW].count..4 {
             state = arrive::<S>(&state, &mut store, 2, 1, slot);
         }
         let reply = S::step(&state, &store);

@@ -3,7 +3,7 @@
 
 use crate::model::plan::{self, MOST_PORTS};
 use crate::model::refusal::number;
-use crate::model::{by_value, planfile, regulator, Multiplexer, Plan, Port, Refusal, SlotAnswer, Switch};
+use crate::model::{by_value, planfile, regulator, Multiplexer, Plan, Port, Switch};
 
 #[derive(Clone, Copy, Debug, PartialEq, Eq)]
 #[repr(C)]
@@ -120,29 +120,27 @@ impl Operations for Model {
     }
 
     fn arrive(state: &Switch, store: &mut [u32], input: usize, output: usize, cell: u32) -> Reply {
-        Reply::from(by_value::arrive(*state, store, input, output, cell))
+        let mut reply = Reply { verdict: 0, state: *state };
+        reply.verdict = number(&reply.state.arrive(store, input, output, cell));
+        reply
     }
 
     fn load(state: &Switch, ports: usize, frame: u32, rates: &[u16]) -> Reply {
-        Reply::from(by_value::load(*state, ports, frame, rates))
+        let mut reply = Reply { verdict: 0, state: *state };
+        reply.verdict = number(&reply.state.load(ports, frame, rates));
+        reply
     }
 
     fn step(state: &Switch, store: &[u32]) -> SlotReply {
-        let (state, outcome) = by_value::step(*state, store);
-        let verdict = number(&outcome);
-        let answer = outcome.unwrap_or(SlotAnswer::IDLE);
-        SlotReply {
-            verdict,
-            state,
-            boards: answer.boards.map(PortReply::from),
-            heads: answer.heads.map(PortReply::from),
+        let idle = PortReply::from(Port::Idle);
+        let mut reply = SlotReply { verdict: 0, state: *state, boards: [idle; MOST_PORTS], heads: [idle; MOST_PORTS] };
+        let outcome = reply.state.step(store);
+        reply.verdict = number(&outcome);
+        if let Ok(answer) = outcome {
+            reply.boards = answer.boards.map(PortReply::from);
+            reply.heads = answer.heads.map(PortReply::from);
         }
-    }
-}
-
-impl From<(Switch, Result<(), Refusal>)> for Reply {
-    fn from((state, outcome): (Switch, Result<(), Refusal>)) -> Reply {
-        Reply { verdict: number(&outcome), state }
+        reply
     }
 }
 

@@ -9,6 +9,13 @@ mod operations;
 use model::{Multiplexer, Switch};
 use operations::{Choice, Model, Operations, Reading, Reply, SlotReply};
 use std::slice::{from_raw_parts, from_raw_parts_mut};
+use std::sync::Once;
+
+/// Whatever is printed with this archive shall not be taken for a word on the proved library.
+fn say_so() {
+    static SAID: Once = Once::new();
+    SAID.call_once(|| eprintln!("STAND-IN: libgambyre.a is the model here, not the proved library"));
+}
 
 // SAFETY, for each function below: as the header asks, a pointer and its length describe one list.
 
@@ -71,6 +78,7 @@ unsafe extern "C" fn gambyre_choose(
     frame: u32,
     slot: u32,
 ) -> Choice {
+    say_so();
     Model::choose(&m, from_raw_parts(rates, rates_len), frame, slot)
 }
 
@@ -116,5 +124,6 @@ unsafe extern "C" fn gambyre_load(s: Switch, n: usize, t: u32, rates: *const u16
 
 #[no_mangle]
 unsafe extern "C" fn gambyre_step(s: Switch, store: *const u32, store_len: usize) -> SlotReply {
+    say_so();
     Model::step(&s, from_raw_parts(store, store_len))
 }

@@ -164,21 +164,22 @@ impl<S: Operations> Run<S> {
         lent: Option<usize>,
         tally: &mut Tally,
     ) -> Result<(), String> {
-        let (reply, outcome) = match lent {
+        let (reply, outcome); // assigned in place: states are large
+        match lent {
             None => {
-                let reply = S::arrive(&self.subject.state, self.subject.store.list_mut(), input, output, cell);
-                (reply, self.model.state.arrive(self.model.store.list_mut(), input, output, cell))
+                reply = S::arrive(&self.subject.state, self.subject.store.list_mut(), input, output, cell);
+                outcome = self.model.state.arrive(self.model.store.list_mut(), input, output, cell);
             }
             Some(length) => {
                 tally.branch(Branch::StoreOfOtherLength);
                 let mut list = lent_list(length);
-                let reply = S::arrive(&self.subject.state, &mut list, input, output, cell);
+                reply = S::arrive(&self.subject.state, &mut list, input, output, cell);
                 if list != lent_list(length) {
                     return Err("a refused arrival wrote the lent list".to_string());
                 }
-                (reply, self.model.state.arrive(&mut list, input, output, cell))
+                outcome = self.model.state.arrive(&mut list, input, output, cell);
             }
-        };
+        }
         self.subject.state = reply.state;
         self.compare(reply.verdict, &outcome, tally)?;
         if outcome.is_ok() {
@@ -205,21 +206,22 @@ impl<S: Operations> Run<S> {
 
     fn step(&mut self, lent: Option<usize>, tally: &mut Tally) -> Result<Option<SlotAnswer>, String> {
         let takeover = self.model.state.takes_over();
-        let (reply, outcome) = match lent {
+        let (reply, outcome);
+        match lent {
             None => {
-                let reply = S::step(&self.subject.state, self.subject.store.list());
-                (reply, self.model.state.step(self.model.store.list()))
+                reply = S::step(&self.subject.state, self.subject.store.list());
+                outcome = self.model.state.step(self.model.store.list());
             }
             Some(length) => {
                 tally.branch(Branch::StoreOfOtherLength);
                 let list = lent_list(length);
-                let reply = S::step(&self.subject.state, &list);
+                reply = S::step(&self.subject.state, &list);
                 if list != lent_list(length) {
                     return Err("a refused step wrote the lent list".to_string());
                 }
-                (reply, self.model.state.step(&list))
+                outcome = self.model.state.step(&list);
             }
-        };
+        }
         self.subject.state = reply.state;
         self.compare(reply.verdict, &outcome, tally)?;
         let answer = outcome.unwrap_or(SlotAnswer::IDLE);
