@@ -1,0 +1,256 @@
+//! The cases for the bench, C1 to C11, and a few of our own, on any implementation of the operations.
+#![allow(dead_code)] // each program that takes this module in uses its own part of it
+
+use crate::model::{Multiplexer, Plan, Switch};
+use crate::operations::{Operations, PortReply};
+
+pub fn all<S: Operations>() {
+    c1_and_c2_choices::<S>();
+    c3_crossing_fills::<S>();
+    c4_scale::<S>();
+    c5_boost::<S>();
+    c6_one_flow::<S>();
+    c7_no_rates::<S>();
+    c8_rows::<S>();
+    c9_columns::<S>();
+    c10_printout::<S>();
+    c11_limits::<S>();
+    deadlines_round_up::<S>();
+    takeover_waits_for_the_frame::<S>();
+    refusal_examples::<S>();
+    refusal_order::<S>();
+}
+
+const C3_FRAME: u32 = 15;
+const C3_PLAN: [u16; 9] = [13, 2, 0, 1, 10, 4, 1, 3, 11];
+
+/// One port's choices of a frame, in the printout's way.
+fn frame_choices<S: Operations>(rates: &[u16], frame: u32) -> Vec<String> {
+    let mut multiplexer = Multiplexer::ZERO;
+    let choices = (0..frame).map(|slot| {
+        let choice = S::choose(&multiplexer, rates, frame, slot);
+        multiplexer = S::count(&multiplexer, choice);
+        choice.flow().map_or("-".to_string(), |flow| flow.to_string())
+    });
+    let choices = choices.collect();
+    assert_eq!(S::end_frame(&multiplexer, rates.len()), Multiplexer::ZERO);
+    choices
+}
+
+pub fn c1_and_c2_choices<S: Operations>() {
+    assert_eq!(frame_choices::<S>(&[5, 2], 8).join(" "), "0 1 0 - 0 0 1 0", "C1");
+    assert_eq!(frame_choices::<S>(&[2, 3, 1], 6).join(" "), "1 0 1 0 1 2", "C2");
+}
+
+pub fn c3_crossing_fills<S: Operations>() {
+    const FLOW: usize = 2 * 3 + 1;
+    let mut store = vec![0; 9 * 4];
+    let mut state = start::<S>(3, C3_FRAME, &C3_PLAN, 4, &store);
+    let (mut board_slots, mut head_slots, mut empty_slots, mut held) = (vec![], vec![], vec![], vec![]);
+    for slot in 0..C3_FRAME {
+        for _ in state.queues[FLOW].count..4 {
+            state = arrive::<S>(&state, &mut store, 2, 1, slot);
+        }
+        let reply = S::step(&state, &store);
+        assert_eq!(reply.verdict, 0, "C3");
+        if reply.boards[2].kind != 0 && reply.boards[2].other == 1 {
+            board_slots.push(slot);
+        }
+        if reply.heads[1].kind != 0 && reply.heads[1].other == 2 {
+            head_slots.push(slot);
+            if reply.heads[1].kind == 1 {
+                empty_slots.push(slot);
+            }
+        }
+        state = reply.state;
+        held.push(state.crosspoints[FLOW].count);
+    }
+    assert_eq!(board_slots, [1, 8, 12], "C3");
+    assert_eq!(head_slots, [1, 7, 13], "C3");
+    assert_eq!(empty_slots, [7], "C3");
+    assert_eq!((held[12], held[13]), (2, 1), "C3");
+}
+
+pub fn c4_scale<S: Operations>() {
+    let mut rates = [9; 9];
+    assert_eq!(S::scale(3, 10, &[4, 5, 6, 3, 5, 5, 2, 1, 6], &mut rates), 0, "C4");
+    assert_eq!(rates, [2, 3, 3, 2, 3, 2, 2, 0, 3], "C4");
+}
+
+pub fn c5_boost<S: Operations>() {
+    let mut rates = [9; 9];
+    assert_eq!(S::boost(3, 10, &[2, 3, 3, 2, 3, 2, 2, 0, 3], &mut rates), 0, "C5");
+    assert_eq!(rates, [4, 3, 3, 2, 6, 2, 4, 1, 5], "C5");
+}
+
+pub fn c6_one_flow<S: Operations>() {
+    assert_eq!(frame_choices::<S>(&[1], 1), ["0"], "C6");
+    let store = [0];
+    let mut state = start::<S>(1, 1, &[1], 1, &store);
+    for _ in 0..5 {
+        let reply = S::step(&state, &store);
+        let served_in_vain = PortReply { kind: 1, other: 0, cell: 0 };
+        assert_eq!((reply.verdict, reply.boards[0], reply.heads[0]), (0, served_in_vain, served_in_vain), "C6");
+        state = reply.state;
+    }
+}
+
+pub fn c7_no_rates<S: Operations>() {
+    assert_eq!(S::accept(2, 4, &[0; 4]), 0, "C7");
+    let store = [0; 4];
+    let mut state = start::<S>(2, 4, &[0; 4], 1, &store);
+    for _ in 0..8 {
+        let reply = S::step(&state, &store);
+        assert_eq!(reply.verdict, 0, "C7");
+        assert!(reply.boards.iter().chain(&reply.heads).all(|port| port.kind == 0), "C7");
+        state = reply.state;
+    }
+}
+
+pub fn c8_rows<S: Operations>() {
+    assert_eq!(S::accept(2, 3, &[1, 2, 0, 0]), 0, "C8");
+    assert_eq!(S::accept(2, 3, &[2, 2, 0, 0]), 4, "C8");
+}
+
+pub fn c9_columns<S: Operations>() {
+    assert_eq!(S::accept(2, 3, &[2, 0, 2, 0]), 5, "C9");
+    assert_eq!(S::accept(2, 3, &[3, 1, 1, 0]), 4, "C9");
+}
+
+/// The printout, put together from the reader and the choices.
+pub fn c10_printout<S: Operations>() {
+    let reading = S::read(&C10_FILE);
+    assert_eq!((reading.verdict, reading.plan.ports, reading.plan.frame), (0, 2, 2), "C10");
+    let rates = &reading.plan.rates;
+    let lines = [[rates[0], rates[1]], [rates[2], rates[3]], [rates[0], rates[2]], [rates[1], rates[3]]];
+    let ports = lines.map(|line| frame_choices::<S>(&line, 2));
+    let mut text = "slot in0 in1 out0 out1\n".to_string();
+    for slot in 0..2 {
+        text += &format!("{slot} {} {} {} {}\n", ports[0][slot], ports[1][slot], ports[2][slot], ports[3][slot]);
+    }
+    assert_eq!(text, C10_TEXT, "C10");
+}
+
+pub const C10_FILE: [u8; 16] = [0x4C, 0x53, 0x50, 1, 0, 2, 2, 0, 1, 0, 1, 0, 1, 0, 0, 0];
+pub const C10_TEXT: &str = "slot in0 in1 out0 out1\n0 0 0 0 0\n1 1 - 1 -\n";
+
+pub fn c11_limits<S: Operations>() {
+    let mut store = vec![0; 64];
+    let mut state = start::<S>(1, 2, &[1], 64, &store);
+    for cell in 1..=64 {
+        state = arrive::<S>(&state, &mut store, 0, 0, cell);
+    }
+    let reply = S::arrive(&state, &mut store, 0, 0, 65);
+    assert_eq!((reply.verdict, reply.state), (11, state), "C11");
+    assert_eq!(store, (1..=64).collect::<Vec<u32>>(), "C11");
+    assert_eq!(S::accept(1, 4096, &[4096]), 0, "C11");
+    assert_eq!(S::accept(1, 4097, &[4096]), 2, "C11");
+}
+
+/// Worked by hand. In slots 0 and 9 the deadlines are 11 / 4 and 11 / 5, then both 11: ties once rounded up.
+pub fn deadlines_round_up<S: Operations>() {
+    assert_eq!(frame_choices::<S>(&[4, 5], 11).join(" "), "0 1 - 1 0 1 0 1 - 0 1");
+}
+
+/// A plan loaded in mid-frame takes over in the next slot 0 and leaves no trace in the waiting place.
+pub fn takeover_waits_for_the_frame<S: Operations>() {
+    let store = [0];
+    let mut state = start::<S>(1, 3, &[1], 1, &store);
+    let mut kinds = vec![];
+    for slot in 0..6 {
+        if slot == 1 {
+            let loaded = S::load(&state, 1, 3, &[3]);
+            assert_eq!((loaded.verdict, loaded.state.waits), (0, true));
+            state = loaded.state;
+        }
+        let reply = S::step(&state, &store);
+        kinds.push(reply.boards[0].kind);
+        state = reply.state;
+        assert_eq!(state.waits, slot == 1 || slot == 2);
+    }
+    assert_eq!(kinds, [1, 0, 0, 1, 1, 1]);
+    assert_eq!((state.running.rates[0], state.waiting), (3, Plan::ZERO));
+}
+
+/// The small examples of the table of refusals.
+pub fn refusal_examples<S: Operations>() {
+    let store = [0; 4];
+    let mut one_place = [0; 1];
+    assert_eq!(S::accept(17, 4, &[0; 289]), 1);
+    assert_eq!(S::accept(1, 0, &[0]), 2);
+    assert_eq!(S::accept(2, 4, &[0; 3]), 3);
+    assert_eq!(S::accept(2, 3, &[2, 2, 0, 0]), 4);
+    assert_eq!(S::accept(2, 3, &[2, 0, 2, 0]), 5);
+    let refused = S::start(1, 4, &[1], 65, &[0; 65]);
+    assert_eq!((refused.verdict, refused.state), (6, Switch::ZERO));
+    let refused = S::start(1, 4, &[1], 2, &[0; 3]);
+    assert_eq!((refused.verdict, refused.state), (7, Switch::ZERO));
+
+    let two_ports = start::<S>(2, 6, &[1; 4], 1, &store);
+    assert_eq!(S::load(&two_ports, 2, 8, &[1; 4]).verdict, 8);
+    let loaded = S::load(&two_ports, 2, 6, &[2; 4]);
+    assert_eq!((loaded.verdict, loaded.state.waits), (0, true));
+    let refused = S::load(&loaded.state, 2, 6, &[2; 4]);
+    assert_eq!((refused.verdict, refused.state), (9, loaded.state));
+    assert_eq!(S::arrive(&two_ports, &mut [0; 4], 0, 2, 7).verdict, 10);
+    let one_port = start::<S>(1, 2, &[1], 1, &one_place);
+    let mut full = arrive::<S>(&one_port, &mut one_place, 0, 0, 7);
+    assert_eq!(S::arrive(&full, &mut one_place, 0, 0, 8).verdict, 11);
+    assert_eq!(one_place, [7]);
+    assert_eq!(S::step(&Switch { slot: 2, ..full }, &one_place).verdict, 12);
+    full.crosspoints[0].count = 2;
+    let refused = S::step(&full, &one_place);
+    assert_eq!((refused.verdict, refused.state, refused.boards[0].kind), (13, full, 0));
+    let mut second_version = C10_FILE;
+    second_version[3] = 2;
+    assert_eq!(S::read(&second_version).verdict, 14);
+    assert_eq!(S::read(&[]).verdict, 15);
+}
+
+/// Where several conditions hold, the first in the operation's order decides.
+pub fn refusal_order<S: Operations>() {
+    assert_eq!(S::accept(0, 0, &[1]), 1);
+    assert_eq!(S::accept(2, 0, &[]), 2);
+    assert_eq!(S::accept(2, 1, &[9; 3]), 3);
+    assert_eq!(S::accept(2, 1, &[1, 0, 1, 1]), 4, "a later row before an earlier column");
+    assert_eq!(S::start(2, 1, &[1, 0, 1, 0], 0, &[]).verdict, 5);
+    assert_eq!(S::start(2, 1, &[0; 4], 0, &[]).verdict, 6);
+    let mut rates = [8; 4];
+    assert_eq!(S::scale(2, 0, &[], &mut rates), 2);
+    assert_eq!(S::boost(2, 1, &[9; 4], &mut rates[..3]), 3);
+    assert_eq!(rates, [8; 4]);
+
+    let mut state = start::<S>(1, 1, &[1], 1, &[0]);
+    assert_eq!(S::load(&state, 17, 2, &[]).verdict, 1);
+    assert_eq!(S::load(&state, 1, 2, &[3]).verdict, 4);
+    state = S::load(&state, 1, 1, &[1]).state;
+    assert_eq!(S::load(&state, 1, 2, &[1]).verdict, 8);
+    assert_eq!(S::arrive(&state, &mut [0; 2], 1, 1, 0).verdict, 7);
+    state.queues[0].count = 1;
+    assert_eq!(S::arrive(&state, &mut [0], 0, 1, 0).verdict, 10);
+    state.crosspoints[0].count = 2;
+    assert_eq!(S::step(&state, &[0; 2]).verdict, 7);
+    state.depth = 0;
+    assert_eq!(S::load(&state, 17, 0, &[]).verdict, 12);
+    assert_eq!(S::arrive(&state, &mut [], 1, 1, 0).verdict, 12);
+    assert_eq!(S::step(&state, &[]).verdict, 12);
+
+    assert_eq!(S::read(b"XSP\x01\0\0\0").verdict, 15);
+    assert_eq!(S::read(b"XSP\x01\0\0\0\0").verdict, 14);
+    assert_eq!(S::read(b"LSP\x01\0\0\0\0").verdict, 1);
+    assert_eq!(S::read(b"LSP\x01\0\x01\0\0").verdict, 2);
+    assert_eq!(S::read(b"LSP\x01\0\x01\x01\0\x02").verdict, 15);
+    assert_eq!(S::read(b"LSP\x01\0\x01\x01\0\x02\0").verdict, 4);
+}
+
+fn start<S: Operations>(ports: usize, frame: u32, rates: &[u16], depth: usize, store: &[u32]) -> Switch {
+    let reply = S::start(ports, frame, rates, depth, store);
+    assert_eq!(reply.verdict, 0);
+    reply.state
+}
+
+fn arrive<S: Operations>(state: &Switch, store: &mut [u32], input: usize, output: usize, cell: u32) -> Switch {
+    let reply = S::arrive(state, store, input, output, cell);
+    assert_eq!(reply.verdict, 0);
+    reply.state
+}

@@ -1,0 +1,110 @@
+//! Random inputs.
+
+use super::{plan_file, Inputs};
+use crate::check::plans;
+use crate::check::same::same;
+use crate::model::plan::MOST_PORTS;
+use crate::model::Multiplexer;
+use crate::operations::Operations;
+
+impl<S: Operations> Inputs<'_, S> {
+    fn random_shape(&mut self) -> (usize, u32) {
+        let ports = self.random.within(1, 16);
+        let longest = self.random.pick(&[4, 64, 4096]);
+        (ports, self.random.within(1, longest) as u32)
+    }
+
+    /// Accepted, or with a few rates changed.
+    fn random_rates(&mut self, ports: usize, frame: u32) -> Vec<u16> {
+        let mut rates = plans::accepted(self.random, ports, frame);
+        for _ in 0..self.random.below(3) {
+            let flow = self.random.below(ports * ports);
+            let any = self.random.next() as u16;
+            rates[flow] = self.random.pick(&[0, rates[flow].saturating_add(1), frame as u16, any]);
+        }
+        if self.random.one_in(20) {
+            rates.pop();
+        }
+        rates
+    }
+
+    pub fn random_plan(&mut self) -> Result<(), String> {
+        let (ports, frame) = self.random_shape();
+        let rates = self.random_rates(ports, frame);
+        self.accept(ports, frame, &rates)?;
+        let out_length = ports * ports + usize::from(self.random.one_in(20));
+        self.boost(ports, frame, &rates, out_length)?;
+        self.scale(ports, frame, &rates, out_length)?;
+        let most = self.random.pick(&[1, 10, 1000, u16::MAX]);
+        let demands = self.random.rates(ports * ports, most);
+        self.scale(ports, frame, &demands, out_length)
+    }
+
+    pub fn random_desk_view(&mut self) -> Result<(), String> {
+        let ports = self.random.within(1, 16);
+        let running = self.random.rates(ports * ports, u16::MAX);
+        let waiting = self.random.rates(ports * ports, u16::MAX);
+        let (input, takeover) = (self.random.below(ports), self.random.flip());
+        let out_length = self.random.within(0, 20);
+        self.desk_view(&running, &waiting, ports, input, takeover, out_length)
+    }
+
+    /// Small numbers make ties; any numbers make products of all sizes.
+    pub fn random_choice(&mut self) -> Result<(), String> {
+        let most = self.random.pick(&[2, 6, 4096, u16::MAX]);
+        let length = self.random.within(0, 17);
+        let rates = self.random.rates(length, most);
+        let served: Vec<u16> = self.random.rates(MOST_PORTS, most);
+        let multiplexer = Multiplexer { served: served.try_into().expect("16 counts") };
+        let frame = if self.random.flip() { 1 + self.random.below(4096) as u32 } else { self.random.next() as u32 };
+        let slot = if self.random.flip() { self.random.below(4096) as u32 } else { self.random.next() as u32 };
+        let choice = self.choose(&multiplexer, &rates, frame, slot)?;
+        self.count(&multiplexer, choice)?;
+        let ports = self.random.within(0, 17);
+        self.end_frame(&multiplexer, ports)
+    }
+
+    /// A port's whole frame, with the window rule for each service.
+    pub fn random_frame(&mut self) -> Result<(), String> {
+        let (ports, frame) = self.random_shape();
+        let frame = frame.min(200);
+        let list = plans::accepted(self.random, ports, frame);
+        let input = self.random.below(ports);
+        let rates = &list[input * ports..][..ports];
+        let mut multiplexer = Multiplexer::ZERO;
+        for slot in 0..frame {
+            let choice = self.choose(&multiplexer, rates, frame, slot)?;
+            multiplexer = self.count(&multiplexer, choice)?;
+            if let Some(flow) = choice.flow() {
+                let (rate, service) = (u32::from(rates[flow]), u32::from(multiplexer.served[flow]));
+                let window = ((service - 1) * frame).div_ceil(rate)..(service * frame).div_ceil(rate);
+                if !window.contains(&slot) {
+                    return Err(format!("rates {rates:?} T {frame}: service {service} of flow {flow} in slot {slot}"));
+                }
+            }
+        }
+        same("services of a frame", &&multiplexer.served[..ports], &rates)?;
+        self.end_frame(&multiplexer, ports)
+    }
+
+    pub fn random_start(&mut self) -> Result<(), String> {
+        let (ports, frame) = self.random_shape();
+        let rates = self.random_rates(ports, frame);
+        let depth = self.random.within(0, 66);
+        let store_length = ports * ports * depth + usize::from(self.random.one_in(10));
+        self.start(ports, frame, &rates, depth, store_length)?;
+        Ok(())
+    }
+
+    pub fn random_file(&mut self) -> Result<(), String> {
+        let (ports, frame) = self.random_shape();
+        let rates = self.random_rates(ports, frame);
+        let mut file = plan_file(ports as u8, frame as u16, &rates);
+        for _ in 0..self.random.below(3) {
+            let place = self.random.below(file.len());
+            file[place] = self.random.next() as u8;
+        }
+        self.read(&file)?;
+        Ok(())
+    }
+}

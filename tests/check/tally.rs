@@ -1,0 +1,127 @@
+//! What a comparison has seen.
+
+use crate::model::Port;
+use std::collections::BTreeMap;
+
+pub const REFUSALS: [&str; 15] = [
+    "N outside 1 to 16",
+    "T outside 1 to 4,096",
+    "list isn't N × N long",
+    "row sum above T",
+    "column sum above T",
+    "Q outside 1 to 64",
+    "store not N × N × Q long",
+    "loaded plan has another N or T",
+    "a plan already waits",
+    "port not below N",
+    "queue holds Q cells",
+    "state out of bounds",
+    "third cell",
+    "mark or version",
+    "file length",
+];
+
+/// A way through the slot or an edge of a structure that a run has to reach.
+#[derive(Clone, Copy)]
+pub enum Branch {
+    BoardIdle,
+    BoardEmpty,
+    BoardMoved,
+    HeadIdle,
+    HeadEmpty,
+    HeadMoved,
+    Takeover,
+    FrameEnd,
+    ArrivalWraps,
+    MoveWraps,
+    CrosspointFull,
+    StoreOfOtherLength,
+    LoadInMidFrame,
+    FedSinceStart,
+    FedStretch,
+}
+
+const BRANCHES: [&str; 15] = [
+    "board idle",
+    "board empty",
+    "board moved",
+    "head idle",
+    "head empty",
+    "head moved",
+    "takeover",
+    "frame end",
+    "ring wraps for an arrival",
+    "ring wraps for a move",
+    "crosspoint reaches two cells",
+    "list of another length lent",
+    "load accepted in mid-frame",
+    "lower share checked, fed since the start",
+    "lower share checked, fed in the stretch",
+];
+
+#[derive(Default)]
+pub struct Tally {
+    pub runs: u64,
+    pub slots: u64,
+    pub calls: u64,
+    pub states: u64,
+    pub inputs: u64,
+    verdicts: [u64; 16],
+    branches: [u64; BRANCHES.len()],
+    /// How often a clause was met at its limit, and how often past it.
+    clauses: BTreeMap<&'static str, [u64; 2]>,
+}
+
+impl Tally {
+    pub fn verdict(&mut self, verdict: u8) {
+        self.verdicts[usize::from(verdict)] += 1;
+    }
+
+    pub fn branch(&mut self, branch: Branch) {
+        self.branches[branch as usize] += 1;
+    }
+
+    /// What one board and one head answered.
+    pub fn ports(&mut self, board: &Port, head: &Port) {
+        self.branch(match board {
+            Port::Idle => Branch::BoardIdle,
+            Port::Empty { .. } => Branch::BoardEmpty,
+            Port::Moved { .. } => Branch::BoardMoved,
+        });
+        self.branch(match head {
+            Port::Idle => Branch::HeadIdle,
+            Port::Empty { .. } => Branch::HeadEmpty,
+            Port::Moved { .. } => Branch::HeadMoved,
+        });
+    }
+
+    pub fn clause(&mut self, name: &'static str, past: bool) {
+        self.clauses.entry(name).or_default()[usize::from(past)] += 1;
+    }
+
+    /// Prints all counts; answers what was never hit.
+    pub fn report(&self) -> Vec<String> {
+        let mut missing = Vec::new();
+        let mut line = |name: String, count: u64| {
+            println!("  {name:<48} {count:>12}");
+            if count == 0 {
+                missing.push(name);
+            }
+        };
+        println!("verdicts");
+        line("0 accepted".to_string(), self.verdicts[0]);
+        for (refusal, name) in REFUSALS.iter().enumerate() {
+            line(format!("{} {name}", refusal + 1), self.verdicts[refusal + 1]);
+        }
+        println!("branches in runs");
+        for (name, &count) in BRANCHES.iter().zip(&self.branches) {
+            line(name.to_string(), count);
+        }
+        println!("clauses of 12 and 13 in hand-made states");
+        for (name, [within, past]) in &self.clauses {
+            line(format!("{name}, at the limit"), *within);
+            line(format!("{name}, past it"), *past);
+        }
+        missing
+    }
+}

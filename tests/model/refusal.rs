@@ -1,0 +1,39 @@
+//! Why a call is sent back.
+
+/// In the order of the scope's table: the first is number 1.
+#[derive(Clone, Copy, Debug, PartialEq, Eq)]
+#[repr(u8)]
+pub enum Refusal {
+    PortsOutOfRange = 1,
+    FrameOutOfRange,
+    ListLength,
+    RowAboveFrame,
+    ColumnAboveFrame,
+    DepthOutOfRange,
+    StoreLength,
+    OtherPortsOrFrame,
+    PlanAlreadyWaits,
+    NoSuchPort,
+    QueueFull,
+    BrokenState,
+    ThirdCell,
+    MarkOrVersion,
+    FileLength,
+}
+
+/// The number of a call's outcome: 0 is accepted.
+pub fn number<T>(outcome: &Result<T, Refusal>) -> u8 {
+    match outcome {
+        Ok(_) => 0,
+        Err(refusal) => *refusal as u8,
+    }
+}
+
+/// Refuses if the condition holds.
+pub fn refuse_if(condition: bool, refusal: Refusal) -> Result<(), Refusal> {
+    if condition {
+        Err(refusal)
+    } else {
+        Ok(())
+    }
+}

@@ -1,0 +1,38 @@
+#!/usr/bin/env bash
+# The comparison put to the test: it has to catch each of these wrong versions of the switch. Each is the
+# model with one edit, built as the stand-in for the proved library; the near misses of the scope come first.
+# The unedited stand-in has to pass. With -v all that the comparison printed is shown.
+set -euo pipefail
+cd "$(dirname "$0")/.."
+build=target/mutants
+failed=0
+verbose=${1:-}
+
+# try NAME FILE SED-EDIT
+try() {
+    rm -rf "$build" && mkdir -p "$build/lib" && cp -r tests "$build/tests"
+    sed -i "$3" "$build/tests/model/$2"
+    if [ "$1" != unedited ] && cmp -s "tests/model/$2" "$build/tests/model/$2"; then
+        echo "$1: the edit changes nothing"; failed=1; return
+    fi
+    rustc --edition 2021 -O --crate-type staticlib "$build/tests/standin.rs" -o "$build/lib/libgambyre.a"
+    rustc --edition 2021 -O tests/compare.rs -L "$build/lib" -o "$build/compare"
+    status=0
+    "$build/compare" 100000 1 > "$build/out" 2>&1 || status=$?
+    if [ "$1" = unedited ]; then want=0; else want=1; fi
+    if [ $((status != 0)) = $want ]; then echo "ok, $1:"; else echo "WRONG, $1:"; failed=1; fi
+    if [ "$verbose" = -v ]; then sed 's/^/    /' "$build/out"; else echo "    $(tail -n 1 "$build/out")"; fi
+}
+
+try unedited multiplexer.rs ''
+try "a tie goes to the highest number" multiplexer.rs 's/deadline < smallest/deadline <= smallest/'
+try "deadlines compared before rounding up" multiplexer.rs 's/((served + 1) \* frame).div_ceil(rate)/((served + 1) * frame << 24) \/ rate/'
+try "sending before moving" switch.rs 's/self.move_cells(&choices, store, &mut answer);/SWAP/; s/self.send_cells(&choices, &mut answer);/self.move_cells(\&choices, store, \&mut answer);/; s/SWAP/self.send_cells(\&choices, \&mut answer);/'
+try "takeover in mid-frame" switch.rs 's/self.waits && self.slot == 0/self.waits/'
+try "boost from the sums taken before" regulator.rs 's/row_sum(ports, rates, input).max(column_sum(ports, rates, output))/row_sum(ports, given, input).max(column_sum(ports, given, output))/'
+try "a board passes over a flow with an empty queue" switch.rs 's/choose(plan.row(port), /choose(\&std::array::from_fn::<u16, MOST_PORTS, _>(|j| if j < plan.ports \&\& self.queues[port * plan.ports + j].count > 0 { plan.rate(port, j) } else { 0 }), /'
+try "queue full one cell early" switch.rs 's/usize::from(queue.count) == self.depth/usize::from(queue.count) + 1 >= self.depth/'
+try "a waiting plan is judged though none waits" switch.rs 's/(!self.waits$/(false/'
+try "columns before rows" plan.rs 's/row_sum(ports, rates, input) > frame, Refusal::RowAboveFrame/column_sum(ports, rates, input) > frame, Refusal::ColumnAboveFrame/; s/column_sum(ports, rates, output) > frame, Refusal::ColumnAboveFrame/row_sum(ports, rates, output) > frame, Refusal::RowAboveFrame/'
+try "the second place is cleared too" switch.rs 's/self.cells\[0\] = 0;/self.cells = [0, 0];/'
+exit $failed

@@ -1,0 +1,170 @@
+//! The public operations in the terms of the header, and the model put into these terms.
+#![allow(dead_code)] // each program that takes this module in uses its own part of it
+
+use crate::model::plan::{self, MOST_PORTS};
+use crate::model::refusal::number;
+use crate::model::{by_value, planfile, regulator, Multiplexer, Plan, Port, Switch};
+
+#[derive(Clone, Copy, Debug, PartialEq, Eq)]
+#[repr(C)]
+pub struct Reply {
+    pub verdict: u8,
+    pub state: Switch,
+}
+
+/// Kind: 0 idle, 1 empty, 2 moved.
+#[derive(Clone, Copy, Debug, PartialEq, Eq)]
+#[repr(C)]
+pub struct PortReply {
+    pub kind: u8,
+    pub other: usize,
+    pub cell: u32,
+}
+
+#[derive(Clone, Copy, Debug, PartialEq, Eq)]
+#[repr(C)]
+pub struct SlotReply {
+    pub verdict: u8,
+    pub state: Switch,
+    pub boards: [PortReply; MOST_PORTS],
+    pub heads: [PortReply; MOST_PORTS],
+}
+
+#[derive(Clone, Copy, Debug, PartialEq, Eq)]
+#[repr(C)]
+pub struct Reading {
+    pub verdict: u8,
+    pub plan: Plan,
+}
+
+/// Kind: 0 idle, 1 flow.
+#[derive(Clone, Copy, Debug, PartialEq, Eq)]
+#[repr(C)]
+pub struct Choice {
+    pub kind: u8,
+    pub flow: usize,
+}
+
+/// One implementation of the switch. States are lent here, and copied where the header takes them by value.
+pub trait Operations {
+    fn accept(ports: usize, frame: u32, rates: &[u16]) -> u8;
+    fn desk_view(
+        running: &[u16],
+        waiting: &[u16],
+        ports: usize,
+        input: usize,
+        takeover: bool,
+        out: &mut [u16],
+    ) -> usize;
+    fn scale(ports: usize, frame: u32, demands: &[u16], rates: &mut [u16]) -> u8;
+    fn boost(ports: usize, frame: u32, given: &[u16], rates: &mut [u16]) -> u8;
+    fn read(bytes: &[u8]) -> Reading;
+    fn choose(multiplexer: &Multiplexer, rates: &[u16], frame: u32, slot: u32) -> Choice;
+    fn count(multiplexer: &Multiplexer, choice: Choice) -> Multiplexer;
+    fn end_frame(multiplexer: &Multiplexer, ports: usize) -> Multiplexer;
+    fn start(ports: usize, frame: u32, rates: &[u16], depth: usize, store: &[u32]) -> Reply;
+    fn arrive(state: &Switch, store: &mut [u32], input: usize, output: usize, cell: u32) -> Reply;
+    fn load(state: &Switch, ports: usize, frame: u32, rates: &[u16]) -> Reply;
+    fn step(state: &Switch, store: &[u32]) -> SlotReply;
+}
+
+pub struct Model;
+
+impl Operations for Model {
+    fn accept(ports: usize, frame: u32, rates: &[u16]) -> u8 {
+        number(&plan::accept(ports, frame, rates))
+    }
+
+    fn desk_view(
+        running: &[u16],
+        waiting: &[u16],
+        ports: usize,
+        input: usize,
+        takeover: bool,
+        out: &mut [u16],
+    ) -> usize {
+        let row = plan::desk_view(running, waiting, ports, input, takeover);
+        let fits = row.len().min(out.len());
+        out[..fits].copy_from_slice(&row[..fits]);
+        row.len()
+    }
+
+    fn scale(ports: usize, frame: u32, demands: &[u16], rates: &mut [u16]) -> u8 {
+        number(&regulator::scale(ports, frame, demands, rates))
+    }
+
+    fn boost(ports: usize, frame: u32, given: &[u16], rates: &mut [u16]) -> u8 {
+        number(&regulator::boost(ports, frame, given, rates))
+    }
+
+    fn read(bytes: &[u8]) -> Reading {
+        let outcome = planfile::read(bytes);
+        Reading { verdict: number(&outcome), plan: outcome.unwrap_or(Plan::ZERO) }
+    }
+
+    fn choose(multiplexer: &Multiplexer, rates: &[u16], frame: u32, slot: u32) -> Choice {
+        Choice::from(multiplexer.choose(rates, frame, slot))
+    }
+
+    fn count(multiplexer: &Multiplexer, choice: Choice) -> Multiplexer {
+        by_value::count(*multiplexer, choice.flow())
+    }
+
+    fn end_frame(multiplexer: &Multiplexer, ports: usize) -> Multiplexer {
+        by_value::end_frame(*multiplexer, ports)
+    }
+
+    fn start(ports: usize, frame: u32, rates: &[u16], depth: usize, store: &[u32]) -> Reply {
+        let outcome = Switch::start(ports, frame, rates, depth, store);
+        Reply { verdict: number(&outcome), state: outcome.unwrap_or(Switch::ZERO) }
+    }
+
+    fn arrive(state: &Switch, store: &mut [u32], input: usize, output: usize, cell: u32) -> Reply {
+        let mut reply = Reply { verdict: 0, state: *state };
+        reply.verdict = number(&reply.state.arrive(store, input, output, cell));
+        reply
+    }
+
+    fn load(state: &Switch, ports: usize, frame: u32, rates: &[u16]) -> Reply {
+        let mut reply = Reply { verdict: 0, state: *state };
+        reply.verdict = number(&reply.state.load(ports, frame, rates));
+        reply
+    }
+
+    fn step(state: &Switch, store: &[u32]) -> SlotReply {
+        let idle = PortReply::from(Port::Idle);
+        let mut reply = SlotReply { verdict: 0, state: *state, boards: [idle; MOST_PORTS], heads: [idle; MOST_PORTS] };
+        let outcome = reply.state.step(store);
+        reply.verdict = number(&outcome);
+        if let Ok(answer) = outcome {
+            reply.boards = answer.boards.map(PortReply::from);
+            reply.heads = answer.heads.map(PortReply::from);
+        }
+        reply
+    }
+}
+
+impl From<Port> for PortReply {
+    fn from(port: Port) -> PortReply {
+        match port {
+            Port::Idle => PortReply { kind: 0, other: 0, cell: 0 },
+            Port::Empty { other } => PortReply { kind: 1, other, cell: 0 },
+            Port::Moved { other, cell } => PortReply { kind: 2, other, cell },
+        }
+    }
+}
+
+impl From<Option<usize>> for Choice {
+    fn from(choice: Option<usize>) -> Choice {
+        match choice {
+            None => Choice { kind: 0, flow: 0 },
+            Some(flow) => Choice { kind: 1, flow },
+        }
+    }
+}
+
+impl Choice {
+    pub fn flow(&self) -> Option<usize> {
+        (self.kind != 0).then_some(self.flow)
+    }
+}

@@ -1,0 +1,120 @@
+//! The model and the comparison put to the test by themselves, without the proved library:
+//! the cases of the scope on the model, the model by value against the model in place, and the check of
+//! shares against the words of the scope.
+//!
+//!     rustc --edition 2021 -O --test tests/selftest.rs -o target/selftest && target/selftest
+
+mod cases;
+mod check;
+mod model;
+mod operations;
+
+use check::random::Random;
+use check::share::Share;
+use check::tally::Tally;
+use check::{inputs, runs, states};
+use model::printout::printout;
+use operations::Model;
+
+#[test]
+fn cases_of_the_scope() {
+    cases::all::<Model>();
+}
+
+#[test]
+fn printout_of_the_scope() {
+    assert_eq!(printout(&cases::C10_FILE), cases::C10_TEXT);
+    assert_eq!(printout(&[]), "refused 15\n");
+    assert_eq!(printout(b"LSP\x01\0\x01\x02\0\x01\0"), "slot in0 out0\n0 0 0\n1 - -\n");
+}
+
+#[test]
+fn by_value_and_in_place_agree() {
+    let mut tally = Tally::default();
+    for seed in 0..40 {
+        if let Err(failure) = runs::random_run::<Model>(seed, &mut tally) {
+            panic!("{failure}");
+        }
+    }
+    let mut random = Random::new(1);
+    inputs::compare::<Model>(100, &mut random, &mut tally).unwrap();
+    states::compare::<Model>(50, &mut random, &mut tally).unwrap();
+    assert_eq!(tally.report(), Vec::<String>::new());
+}
+
+/// One slot of one flow.
+#[derive(Clone, Copy)]
+struct Slot {
+    rate: u64,
+    board_empty: bool,
+    head_sent: bool,
+}
+
+#[test]
+fn shares_are_those_of_the_scope() {
+    let mut random = Random::new(2);
+    let mut outcomes = [0; 2];
+    for _ in 0..20_000 {
+        let frame = random.within(1, 12) as u64;
+        let slots = random_slots(&mut random, frame);
+        let holds = shares_hold(frame, &slots);
+        assert_eq!(tracked_shares_hold(frame, &slots), holds);
+        outcomes[usize::from(holds)] += 1;
+    }
+    assert!(outcomes.iter().all(|&count| count > 2_000), "{outcomes:?}");
+}
+
+fn random_slots(random: &mut Random, frame: u64) -> Vec<Slot> {
+    let mut rate = random.below(frame as usize + 1) as u64;
+    let haste = random.pick(&[0, 1, 1, 2]);
+    let empty_odds = random.pick(&[5, 30, 1000]);
+    let length = random.below(60);
+    let slot = |_| {
+        if random.one_in(25) {
+            rate = random.below(frame as usize + 1) as u64;
+        }
+        Slot {
+            rate,
+            board_empty: random.one_in(empty_odds),
+            head_sent: (random.below(2 * frame as usize) as u64) < (1 + haste) * rate,
+        }
+    };
+    (0..length).map(slot).collect()
+}
+
+/// Both bounds over each stretch, as the scope has them.
+fn shares_hold(frame: u64, slots: &[Slot]) -> bool {
+    for first in 0..slots.len() {
+        for end in first + 1..=slots.len() {
+            let stretch = &slots[first..end];
+            let rate = stretch[0].rate;
+            if stretch.iter().any(|slot| slot.rate != rate) {
+                continue;
+            }
+            let sent = stretch.iter().filter(|slot| slot.head_sent).count() as u64;
+            let services = stretch.len() as u64 * rate;
+            let fed = |slots: &[Slot]| slots.iter().all(|slot| !slot.board_empty);
+            if sent > services.div_ceil(frame) + 1
+                || fed(stretch) && sent + 3 < services / frame
+                || fed(&slots[..end]) && sent + 2 < services / frame
+            {
+                return false;
+            }
+        }
+    }
+    true
+}
+
+fn tracked_shares_hold(frame: u64, slots: &[Slot]) -> bool {
+    let mut share = Share::new(frame as u32, slots.first().map_or(0, |slot| slot.rate as u16));
+    let mut track = || {
+        for (time, slot) in slots.iter().enumerate() {
+            share.set_rate(time as u64, slot.rate as u16)?;
+            if slot.board_empty || slot.head_sent {
+                share.slot(time as u64, slot.board_empty, slot.head_sent)?;
+            }
+        }
+        share.end(slots.len() as u64)
+    };
+    track().is_ok()
+}
