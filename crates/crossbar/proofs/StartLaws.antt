@@ -11,7 +11,8 @@ use Rattle.refusal.proofs.ChainLaws.{refuse-passed, then-passed}
 use Rattle.plan.specs.Accept.{acceptOf, IsPlan}
 use Rattle.plan.proofs.AcceptLaws.{accepted, accepts}
 use Rattle.crossbar.specs.State.{planRates, depthInRange, storeFits}
-use Rattle.crossbar.specs.Start.{noPlan, freshWith, planOf, startVerdict, CanStart, startOf}
+use Rattle.plan.specs.NoPlan.{noPlan}
+use Rattle.crossbar.specs.Start.{freshWith, planOf, startVerdict, CanStart, startOf}
 use Rattle.crossbar.proofs.RateLaws.{laid-rates}
 use Rattle.crossbar.proofs.StoreLaws.{store-length, store-fits}
 use Rattle.crossbar.proofs.ValidLaws.{depth-range, depth-in}

@@ -1,6 +1,5 @@
 -- "A fresh start holds the given plan as the running one and Q, and 0 or "none waits" everywhere else; it doesn't write
--- the store." Order: 1 to 7. "Where an operation was handed no state or plan and would answer one, the refusal's is
--- all 0".
+-- the store." Order: 1 to 7.
 use Prim.Native.Nat.{ℕ, _*_, _≤_}
 use mathlib.Core.Path.{_≡_}
 use mathlib.Core.Bool.{false, not}
@@ -11,6 +10,7 @@ use Rattle.refusal.specs.declared.Refusal.the-variants.{DepthOutOfRange, StoreL
 use Rattle.refusal.specs.declared.Verdict.{Verdict}
 use Rattle.refusal.specs.declared.Verdict.the-variants.{Accepted}
 use Rattle.plan.specs.Accept.{acceptOf, IsPlan}
+use Rattle.plan.specs.NoPlan.{noPlan}
 use Rattle.plan.specs.declared.Plan.{Plan}
 use Rattle.multiplexer.specs.declared.Multiplexer.{Multiplexer}
 use Rattle.crossbar.specs.State.{depthInRange, storeFits}
@@ -19,9 +19,6 @@ use Rattle.fabric.specs.declared.flow.Queue.{Queue}
 use Rattle.fabric.specs.declared.flow.Crosspoint.{Crosspoint}
 use Rattle.crossbar.specs.declared.state.Switch.{Switch}
 use Rattle.crossbar.specs.declared.state.Reply.{Reply}
-
-abbrev pub noPlan : Plan
-noPlan = record { ports = 0; frame = 0; rates = replicate 256 0 }
 
 abbrev pub emptyQueue : Queue
 emptyQueue = record { place = 0; count = 0 }

@@ -1,6 +1,6 @@
 // The start of a switch.
 ghost use mathlib.Core.Path.{_≡_};
-ghost use Rattle.crossbar.specs.Start.{noPlan, freshWith, startVerdict, Starts};
+ghost use Rattle.crossbar.specs.Start.{freshWith, startVerdict, Starts};
 use crate::rates::overlay;
 use crate::state::Reply;
 use crate::state::Switch;
@@ -11,19 +11,9 @@ use fabric::flow::Queue;
 use multiplexer::Multiplexer;
 use plan::Plan;
 use plan::acceptance::accept;
+use plan::no_plan;
 use refusal::Refusal;
 use refusal::Verdict;
-
-fn no_plan() -> Plan
-    ensures { λ r. ⌜ r ≡ noPlan ⌝ }
-{
-    let rates = [0u16; 256];
-    Plan {
-        ports: 0,
-        frame: 0,
-        rates: rates,
-    }
-}
 
 // A state that runs a plan, with no cell and no service.
 fn fresh_with(plan: Plan, depth: usize) -> Switch

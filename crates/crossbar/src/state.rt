@@ -8,6 +8,7 @@ use refusal::Verdict;
 
 // Flow (i, j) has number i * N + j in both lists, and multiplexer counts by the other port's number. What stands
 // for ports from N up is neither looked at nor changed.
+#[repr(C)]
 pub struct Switch {
     pub running: Plan,
     pub waiting: Plan,

@@ -21,6 +21,7 @@ pub enum Choice {
 }
 
 // How often each flow of the port was served in this frame.
+#[repr(C)]
 pub struct Multiplexer {
     pub served: [u16; 16],
 }

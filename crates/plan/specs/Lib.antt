@@ -3,3 +3,4 @@ pub mod Lines
 pub mod Range
 pub mod Accept
 pub mod Desk
+pub mod NoPlan

@@ -20,7 +20,8 @@ use Rattle.plan.specs.Accept.{withinFrame, acceptOf, IsPlan}
 use Rattle.plan.proofs.AcceptLaws.{accepted}
 use Rattle.plan.proofs.LineLaws.{square-small}
 use Rattle.planfile.specs.Layout.{isMarked, versionIn, portsIn, frameIn, fileLength}
-use Rattle.planfile.specs.Read.{ratesIn, verdictOf, planOf, noPlan, readOf, FilePlan}
+use Rattle.plan.specs.NoPlan.{noPlan}
+use Rattle.planfile.specs.Read.{ratesIn, verdictOf, planOf, readOf, FilePlan}
 use Rattle.planfile.proofs.LayoutLaws.{rates-length, padded-take, padded-length, padded-past}
 
 -- two orders that begin with the same condition, and go on alike where it doesn't hold

@@ -5,13 +5,14 @@ use mathlib.Core.Bool.{_&&_, not}
 use mathlib.Core.List.{List}
 use mathlib.Core.Path.{_≡_}
 use lib.Dec.{ltb, eqb}
-use lib.ListN.{length, getD, take, replicate}
+use lib.ListN.{length, getD, take}
 use Rattle.refusal.specs.Chain.{refuseIf, ifAccepted}
 use Rattle.refusal.specs.declared.Refusal.the-variants.{PortsOutOfRange, FrameOutOfRange, NotPlanFile, FileLength}
 use Rattle.refusal.specs.declared.Verdict.{Verdict}
 use Rattle.plan.specs.declared.Plan.{Plan}
 use Rattle.plan.specs.Range.{portsInRange, frameInRange}
 use Rattle.plan.specs.Accept.{acceptOf, IsPlan}
+use Rattle.plan.specs.NoPlan.{noPlan}
 use Rattle.planfile.specs.declared.Reading.{Reading}
 use Rattle.planfile.specs.Layout.{isMarked, versionIn, portsIn, frameIn, fileLength, ratesOf, padded}
 
@@ -30,10 +31,6 @@ verdictOf file =
 
 abbrev pub planOf : ℕ → ℕ → List ℕ → Plan
 planOf n t rates = record { ports = n; frame = t; rates = padded rates }
-
--- "all 0"
-abbrev pub noPlan : Plan
-noPlan = record { ports = 0; frame = 0; rates = replicate 256 0 }
 
 -- the plan goes with an accepted file only
 abbrev pub readingOf : Verdict → Plan → Reading

@@ -3,8 +3,9 @@ ghost use mathlib.Core.Path.{_≡_};
 ghost use Prim.Native.Nat.{_+_, _*_, _≤_};
 ghost use lib.ListN.{length};
 ghost use Rattle.plan.specs.Accept.{acceptOf};
+ghost use Rattle.plan.specs.NoPlan.{noPlan};
 ghost use Rattle.planfile.specs.Layout.{ratesOf};
-ghost use Rattle.planfile.specs.Read.{noPlan, planOf, readingOf, readOf};
+ghost use Rattle.planfile.specs.Read.{planOf, readingOf, readOf};
 ghost use Rattle.refusal.specs.declared.Verdict.the-variants.{Refused};
 use crate::layout::HEAD;
 use crate::layout::frame_in;
@@ -13,6 +14,7 @@ use crate::layout::ports_in;
 use crate::layout::rates_of;
 use plan::Plan;
 use plan::acceptance::accept;
+use plan::no_plan;
 use plan::range::frame_in_range;
 use plan::range::ports_in_range;
 use refusal::Refusal;
@@ -30,11 +32,7 @@ fn refused(refusal: Refusal) -> Reading
     ensures { λ r. ⌜ r ≡ readingOf (Refused refusal) noPlan ⌝ }
 {
     let verdict = Verdict::Refused(refusal);
-    let plan = Plan {
-        ports: 0,
-        frame: 0,
-        rates: [0u16; 256],
-    };
+    let plan = no_plan();
     Reading { verdict, plan }
 }
 

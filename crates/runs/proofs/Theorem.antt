@@ -10,7 +10,8 @@ use Rattle.refusal.specs.declared.Verdict.the-variants.{Accepted}
 use Rattle.plan.specs.Lines.{flowOf}
 use Rattle.plan.specs.Below.{listBelow}
 use Rattle.crossbar.specs.State.{queueAt, pointAt, boardCount, headCount}
-use Rattle.crossbar.specs.Start.{noPlan, emptyPoint, emptyQueue, freshWith, planOf, startVerdict, startOf, CanStart}
+use Rattle.plan.specs.NoPlan.{noPlan}
+use Rattle.crossbar.specs.Start.{emptyPoint, emptyQueue, freshWith, planOf, startVerdict, startOf, CanStart}
 use Rattle.fabric.specs.declared.flow.Crosspoint.{Crosspoint}
 use Rattle.fabric.specs.declared.flow.Queue.{Queue}
 use Rattle.crossbar.specs.declared.state.Reply.{Reply}
