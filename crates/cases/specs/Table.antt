@@ -1,0 +1,122 @@
+-- "Cases with a star make up one table, proved of the specification by a single theorem". Each line has what the
+-- definitions compute, and what the scope says. The scope's text of a case stands over it.
+use Prim.Native.Nat.{ℕ}
+use mathlib.Core.Path.{_≡_}
+use mathlib.Core.List.{List, [], _∷_, _++_}
+use lib.ListN.{replicate}
+use Rattle.refusal.specs.Number.{verdictNumberOf}
+use Rattle.refusal.specs.declared.Verdict.the-variants.{Accepted}
+use Rattle.plan.specs.Accept.{acceptOf}
+use Rattle.regulator.specs.Outcome.{Outcome, outcome}
+use Rattle.regulator.specs.Scale.{scaleOf}
+use Rattle.regulator.specs.Boost.{boostOf}
+use Rattle.multiplexer.specs.declared.Choice.the-variants.{Idle, Flow}
+use Rattle.runs.specs.Event.{Call, Event}
+use Rattle.runs.specs.Event.Lent.{own}
+use Rattle.runs.specs.Event.Call.{step, arrive}
+use Rattle.runs.specs.Run.{finalState}
+use Rattle.cases.specs.Look.{flowsBySlot, started, runOf, inputBySlot, outputBySlot, inputServes, outputServes, outputEmpty, noneWaits, heldAfter}
+
+infix 20 _is_
+pub record Line : Type 1 where
+  pub kind : Type 0
+  pub computed : kind
+  pub stated : kind
+
+abbrev pub _is_ : {A : Type 0} → A → A → Line
+_is_ {A} computed stated = record { kind = A; computed = computed; stated = stated }
+
+-- each line's two sides are the same
+abbrev pub Hold : List Line → Type 0
+Hold [] = Unit {0}
+Hold (l ∷ ls) = (l .computed ≡ l .stated) × Hold ls
+
+-- rows of a plan
+abbrev row2 : ℕ → ℕ → List ℕ
+row2 a b = a ∷ b ∷ []
+
+abbrev row3 : ℕ → ℕ → ℕ → List ℕ
+row3 a b c = a ∷ b ∷ c ∷ []
+
+-- C1* T = 8, rates 5 2: flows by slot 0 1 0 - 0 0 1 0.
+abbrev pub c1 : List Line
+c1 = (flowsBySlot 8 (5 ∷ 2 ∷ []) is (Flow 0 ∷ Flow 1 ∷ Flow 0 ∷ Idle ∷ Flow 0 ∷ Flow 0 ∷ Flow 1 ∷ Flow 0 ∷ [])) ∷ []
+
+-- C2* T = 6, rates 2 3 1: 1 0 1 0 1 2.
+abbrev pub c2 : List Line
+c2 = (flowsBySlot 6 (2 ∷ 3 ∷ 1 ∷ []) is (Flow 1 ∷ Flow 0 ∷ Flow 1 ∷ Flow 0 ∷ Flow 1 ∷ Flow 2 ∷ [])) ∷ []
+
+-- C3* T = 15, rows 13 2 0, 1 10 4, 1 3 11, flow (2, 1) always waiting. Input 2 serves it in slots 1, 8, 12, output 1 in
+-- 1, 7, 13. Slot 7 is empty; after slot 12 the crosspoint holds 2, after slot 13 one.
+abbrev pub c3Rates : List ℕ
+c3Rates = row3 13 2 0 ++ row3 1 10 4 ++ row3 1 3 11
+
+-- four cells for flow (2, 1), which has three services, then a frame
+abbrev pub c3Calls : List Call
+c3Calls = arrive own 2 1 70 ∷ arrive own 2 1 71 ∷ arrive own 2 1 72 ∷ arrive own 2 1 73 ∷ replicate 15 (step own)
+
+abbrev pub c3Run : List Event
+c3Run = runOf 3 15 c3Rates c3Calls
+
+abbrev pub c3 : List Line
+c3 =
+    (noneWaits 2 1 c3Run is [])
+    ∷ (inputServes 2 1 c3Run is (1 ∷ 8 ∷ 12 ∷ []))
+    ∷ (outputServes 2 1 c3Run is (1 ∷ 7 ∷ 13 ∷ []))
+    ∷ (outputEmpty 2 1 c3Run is (7 ∷ []))
+    ∷ (heldAfter 2 1 12 c3Run is 2)
+    ∷ (heldAfter 2 1 13 c3Run is 1)
+    ∷ []
+
+-- C4* T = 10, demands 4 5 6, 3 5 5, 2 1 6: scaled 2 3 3, 2 3 2, 2 0 3.
+abbrev scaled : Outcome
+scaled = scaleOf 3 10 (row3 4 5 6 ++ row3 3 5 5 ++ row3 2 1 6) (replicate 9 0)
+
+abbrev pub c4 : List Line
+c4 = (scaled is outcome Accepted (row3 2 3 3 ++ row3 2 3 2 ++ row3 2 0 3)) ∷ []
+
+-- C5* boosted: 4 3 3, 2 6 2, 4 1 5.
+abbrev pub c5 : List Line
+c5 = (boostOf 3 10 (scaled .list) (replicate 9 0) is outcome Accepted (row3 4 3 3 ++ row3 2 6 2 ++ row3 4 1 5)) ∷ []
+
+-- C6* N = 1, T = 1, rate 1: served every slot.
+abbrev c6Run : List Event
+c6Run = runOf 1 1 (1 ∷ []) (replicate 3 (step own))
+
+-- three slots, and the state is then the one that they began with
+abbrev pub c6 : List Line
+c6 =
+    (inputBySlot 0 c6Run is (Flow 0 ∷ Flow 0 ∷ Flow 0 ∷ []))
+    ∷ (outputBySlot 0 c6Run is (Flow 0 ∷ Flow 0 ∷ Flow 0 ∷ []))
+    ∷ (finalState (started 1 1 (1 ∷ []) .state) c6Run is started 1 1 (1 ∷ []) .state)
+    ∷ []
+
+-- C7* N = 2, T = 4, all rates 0: accepted, all idle.
+abbrev c7Run : List Event
+c7Run = runOf 2 4 (row2 0 0 ++ row2 0 0) (replicate 4 (step own))
+
+abbrev pub c7 : List Line
+c7 =
+    (acceptOf 2 4 (row2 0 0 ++ row2 0 0) is Accepted)
+    ∷ (inputBySlot 0 c7Run is (Idle ∷ Idle ∷ Idle ∷ Idle ∷ []))
+    ∷ (inputBySlot 1 c7Run is (Idle ∷ Idle ∷ Idle ∷ Idle ∷ []))
+    ∷ (outputBySlot 0 c7Run is (Idle ∷ Idle ∷ Idle ∷ Idle ∷ []))
+    ∷ (outputBySlot 1 c7Run is (Idle ∷ Idle ∷ Idle ∷ Idle ∷ []))
+    ∷ []
+
+-- C8* T = 3: row 1 2 within, row 2 2 refused 4.
+abbrev pub c8 : List Line
+c8 =
+    (acceptOf 2 3 (row2 1 2 ++ row2 0 0) is Accepted)
+    ∷ (verdictNumberOf (acceptOf 2 3 (row2 2 2 ++ row2 0 0)) is 4)
+    ∷ []
+
+-- C9* T = 3, rows 2 0, 2 0: 5. Rows 3 1, 1 0: 4, not 5.
+abbrev pub c9 : List Line
+c9 =
+    (verdictNumberOf (acceptOf 2 3 (row2 2 0 ++ row2 2 0)) is 5)
+    ∷ (verdictNumberOf (acceptOf 2 3 (row2 3 1 ++ row2 1 0)) is 4)
+    ∷ []
+
+abbrev pub table : List Line
+table = c1 ++ c2 ++ c3 ++ c4 ++ c5 ++ c6 ++ c7 ++ c8 ++ c9
