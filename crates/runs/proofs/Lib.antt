@@ -18,4 +18,3 @@ pub mod VerdictLaws
 pub mod ValidityLaws
 pub mod CallLaws
 pub mod Theorem
-pub mod Examples
