@@ -18,6 +18,7 @@ use Rattle.runs.specs.Run.{finalState}
 use Rattle.cases.specs.Look.{flowsBySlot, started, runOf, inputBySlot, outputBySlot, inputServes, outputServes, outputEmpty, noneWaits, heldAfter}
 
 infix 20 _is_
+-- two values of one type; the lines' types differ
 pub record Line : Type 1 where
   pub kind : Type 0
   pub computed : kind
@@ -37,6 +38,8 @@ row2 a b = a ∷ b ∷ []
 
 abbrev row3 : ℕ → ℕ → ℕ → List ℕ
 row3 a b c = a ∷ b ∷ c ∷ []
+
+-- Below, `Flow f` is the scope's f in a list of choices, and `Idle` its "-".
 
 -- C1* T = 8, rates 5 2: flows by slot 0 1 0 - 0 0 1 0.
 abbrev pub c1 : List Line
@@ -83,7 +86,7 @@ c5 = (boostOf 3 10 (scaled .list) (replicate 9 0) is outcome Accepted (row3 4 3 
 abbrev c6Run : List Event
 c6Run = runOf 1 1 (1 ∷ []) (replicate 3 (step own))
 
--- three slots, and the state is then the one that they began with
+-- three slots, each a frame; the state is then the one that they began with, so it goes on like that
 abbrev pub c6 : List Line
 c6 =
     (inputBySlot 0 c6Run is (Flow 0 ∷ Flow 0 ∷ Flow 0 ∷ []))
