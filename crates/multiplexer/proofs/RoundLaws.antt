@@ -6,7 +6,7 @@ use native.Mathlib.Nat.{mul-le-mul, div-le-self, div-lt-iff-lt-mul}
 use native.Mathlib.Omega.{arith}
 use Rattle.plan.proofs.BelowLaws.{lt-or-le}
 use Rattle.multiplexer.specs.Choose.{roundedUp, deadline}
-use Rattle.multiplexer.specs.Candidate.{noDeadline}
+use Rattle.multiplexer.specs.Candidate.{noDeadline, never}
 
 pub quotient-rounded : (x y a : ℕ) → y ≡ x + (a - 1) → y / a ≡ roundedUp x a
 unfolding roundedUp
@@ -43,6 +43,6 @@ pub deadline-small : (a k T : ℕ) → a < 65536 → k < 65536 → T < 429496729
 unfolding roundedUp
 deadline-small a k T ha hk hT = omega (arith, product-small k T hk hT, div-le-self ((k + 1) * T + (a - 1)) a)
 
--- a deadline's product with a rate fits 64 bits
-pub deadline-product : (d a : ℕ) → d ≤ noDeadline → a < 65536 → d * a < 18446744073709551616
+-- a deadline's product with a rate
+pub deadline-product : (d a : ℕ) → d ≤ noDeadline → a < 65536 → d * a < never
 deadline-product d a hd ha = omega (arith, mul-le-mul {n₁ = d} {m₁ = a} {n₂ = 281474976710656} {m₂ = 65535} hd (omega arith))

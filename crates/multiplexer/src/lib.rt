@@ -1,9 +1,10 @@
 // One port's multiplexer: which flow a slot goes to, and how often each flow was served in this frame.
 ghost use mathlib.Core.Path.{_≡_};
-ghost use Prim.Native.Nat.{_≤_, min};
+ghost use Prim.Native.Nat.{_<_, _≤_, min};
+ghost use lib.ListN.{length};
 ghost use Rattle.multiplexer.specs.Choose.{chooseOf};
 ghost use Rattle.multiplexer.specs.Count.{countOf, endFrameOf};
-ghost use Rattle.multiplexer.specs.Candidate.{noDeadline, Improved};
+ghost use Rattle.multiplexer.specs.Candidate.{noDeadline, never, Due, Dues, orFlow};
 
 const MAX_FLOWS: usize = 16;
 
@@ -11,6 +12,9 @@ const MAX_COUNT: u16 = 65535;
 
 // Above every deadline, and small enough that its product with a rate fits 64 bits.
 const NO_DEADLINE: u64 = 281474976710656;
+
+// Above every product of a rate and a deadline.
+const NEVER: u64 = 18446744073709551615;
 
 // What a slot is used for.
 pub enum Choice {
@@ -39,29 +43,47 @@ fn flows(n: usize) -> usize
     if n < MAX_FLOWS { n } else { MAX_FLOWS }
 }
 
+// The flow's deadline is below d exactly if this number is at most d * rate. A flow that is not eligible has NEVER.
+fn due(rate: u16, served: u16, frame: u32, slot: u32) -> u64
+    ensures { λ r. ⌜ Due rate served frame slot r ⌝ }
+{
+    let a = rate as u64;
+    let done = (served as u64) * (frame as u64);
+    if (slot as u64) * a < done {
+        return NEVER;
+    }
+    if rate == 0 {
+        return NEVER;
+    }
+    done + (frame as u64) + a
+}
+
+// The same of each flow below n. They are all made before the choice, so that no branch depends on which flows are
+// eligible: a processor can't foresee that.
+fn dues(rates: &[u16], served: [u16; 16], n: usize, frame: u32, slot: u32) -> [u64; 16]
+    requires { ⌜ (n ≤ 16) × (n ≤ length (now rates)) ⌝ }
+    ensures { λ r. ⌜ Dues (now (rates .entry)) served frame slot n r ⌝ }
+{
+    let mut dues = [NEVER; 16];
+    for f in 0..n {
+        dues[f] = due(rates[f], served[f], frame, slot);
+    }
+    dues
+}
+
 impl Candidate {
-    // The choice with one flow more to choose from. As owed / a rounded up is below d exactly if owed + a <= d * a,
-    // a division is done only where the flow becomes the choice.
-    fn or_flow(self, flow: usize, rate: u16, served: u16, frame: u32, slot: u32) -> Candidate
-        requires { ⌜ self .deadline ≤ noDeadline ⌝ }
-        ensures { λ r. ⌜ Improved self flow rate served frame slot r ⌝ }
+    // The choice with one flow more to choose from. A division is done only where the flow becomes the choice.
+    fn or_flow(self, flow: usize, rate: u16, due: u64) -> Candidate
+        requires { ⌜ (self .deadline ≤ noDeadline) × (0 < due) × (rate ≡ 0 → due ≡ never) ⌝ }
+        ensures { λ r. ⌜ (r ≡ orFlow self flow rate due) × (r .deadline ≤ noDeadline) ⌝ }
     {
-        if rate == 0 {
-            return self;
-        }
         let a = rate as u64;
-        let done = (served as u64) * (frame as u64);
-        if (slot as u64) * a < done {
-            return self;
-        }
-        let owed = done + (frame as u64);
-        let end = owed + a;
-        if self.deadline * a < end {
+        if self.deadline * a < due {
             return self;
         }
         Candidate {
             choice: Choice::Flow(flow),
-            deadline: (end - 1) / a,
+            deadline: (due - 1) / a,
         }
     }
 }
@@ -73,12 +95,13 @@ impl Multiplexer {
     {
         let served = self.served;
         let n = flows(rates.len());
+        let dues = dues(rates, served, n, frame, slot);
         let mut best = Candidate {
             choice: Choice::Idle,
             deadline: NO_DEADLINE,
         };
         for f in 0..n {
-            best = best.or_flow(f, rates[f], served[f], frame, slot);
+            best = best.or_flow(f, rates[f], dues[f]);
         }
         best.choice
     }
