@@ -39,14 +39,22 @@ answerRecord a = record { kind = kindOf a; other = otherOf a; cell = cellOf a }
 unfoldable pub portRecords : List Port → List PortRecord
 portRecords ports = listBelow (λ p. answerRecord (answerOf ports p)) 16
 
--- kind 0 is idle, kind 1 a flow
-abbrev pub choiceRecord : Choice → ChoiceRecord
-choiceRecord Idle = record { kind = 0; flow = 0 }
-choiceRecord (Flow f) = record { kind = 1; flow = f }
+-- the number of each case of a choice
+abbrev pub choiceKindOf : Choice → ℕ
+choiceKindOf Idle = 0
+choiceKindOf (Flow f) = 1
 
--- the choice that a caller hands over: every kind but 0 is a flow
+-- the flow that a choice names, 0 where it names none
+abbrev pub flowIn : Choice → ℕ
+flowIn Idle = 0
+flowIn (Flow f) = f
+
+abbrev pub choiceRecord : Choice → ChoiceRecord
+choiceRecord c = record { kind = choiceKindOf c; flow = flowIn c }
+
+-- the choice that a caller hands over: every kind but that of `Idle` is a flow
 abbrev pub choiceIn : ChoiceRecord → Choice
-choiceIn c = cond (eqb (c .kind) 0) Idle (Flow (c .flow))
+choiceIn c = cond (eqb (c .kind) (choiceKindOf Idle)) Idle (Flow (c .flow))
 
 abbrev pub replyRecord : Reply → ReplyRecord
 replyRecord r = record { verdict = verdictNumberOf (r .verdict); state = r .state }

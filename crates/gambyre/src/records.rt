@@ -10,7 +10,19 @@ use multiplexer::Choice;
 use plan::Plan;
 use planfile::Reading;
 
-// A port's answer: kind 0 idle, 1 empty, 2 moved. What a kind does not have is 0.
+// The kinds of a port's answer.
+const IDLE: u8 = 0;
+
+const EMPTY: u8 = 1;
+
+const MOVED: u8 = 2;
+
+// The kinds of a choice.
+const NO_FLOW: u8 = 0;
+
+const FLOW: u8 = 1;
+
+// A port's answer. What a kind does not have is 0.
 #[repr(C)]
 pub struct PortRecord {
     pub kind: u8,
@@ -18,7 +30,7 @@ pub struct PortRecord {
     pub cell: u32,
 }
 
-// A multiplexer's choice: kind 0 idle, 1 a flow.
+// A multiplexer's choice. Where no flow is served, its number is 0.
 #[repr(C)]
 pub struct ChoiceRecord {
     pub kind: u8,
@@ -51,19 +63,19 @@ fn port_record(port: Port) -> PortRecord
     let answer = port.answer;
     match answer {
         Answer::Idle => PortRecord {
-            kind: 0,
+            kind: IDLE,
             other: 0,
             cell: 0,
         },
         Answer::Empty(other) => PortRecord {
-            kind: 1,
-            other: other,
+            kind: EMPTY,
+            other,
             cell: 0,
         },
         Answer::Moved(other, cell) => PortRecord {
-            kind: 2,
-            other: other,
-            cell: cell,
+            kind: MOVED,
+            other,
+            cell,
         },
     }
 }
@@ -72,7 +84,7 @@ fn port_records(ports: [Port; 16]) -> [PortRecord; 16]
     ensures { λ r. ⌜ r ≡ portRecords ports ⌝ }
 {
     let mut records = [PortRecord {
-        kind: 0,
+        kind: IDLE,
         other: 0,
         cell: 0,
     }; 16];
@@ -88,16 +100,19 @@ pub fn choice_record(choice: Choice) -> ChoiceRecord
     ensures { λ r. ⌜ r ≡ choiceRecord choice ⌝ }
 {
     match choice {
-        Choice::Idle => ChoiceRecord { kind: 0, flow: 0 },
-        Choice::Flow(f) => ChoiceRecord { kind: 1, flow: f },
+        Choice::Idle => ChoiceRecord {
+            kind: NO_FLOW,
+            flow: 0,
+        },
+        Choice::Flow(flow) => ChoiceRecord { kind: FLOW, flow },
     }
 }
 
-// The choice that a caller hands over; every kind but 0 is a flow.
+// The choice that a caller hands over; every other kind is a flow.
 pub fn choice_in(choice: ChoiceRecord) -> Choice
     ensures { λ r. ⌜ r ≡ choiceIn choice ⌝ }
 {
-    if choice.kind == 0 {
+    if choice.kind == NO_FLOW {
         return Choice::Idle;
     }
     Choice::Flow(choice.flow)
@@ -110,7 +125,7 @@ pub fn reply_record(reply: Reply) -> ReplyRecord
     let state = reply.state;
     ReplyRecord {
         verdict: verdict.number(),
-        state: state,
+        state,
     }
 }
 
@@ -123,7 +138,7 @@ pub fn slot_record(reply: SlotReply) -> SlotRecord
     let heads = reply.heads;
     SlotRecord {
         verdict: verdict.number(),
-        state: state,
+        state,
         boards: port_records(boards),
         heads: port_records(heads),
     }
@@ -136,6 +151,6 @@ pub fn reading_record(reading: Reading) -> ReadingRecord
     let plan = reading.plan;
     ReadingRecord {
         verdict: verdict.number(),
-        plan: plan,
+        plan,
     }
 }
