@@ -20,8 +20,7 @@
  * MEMORY
  *   - The caller owns everything. The library allocates nothing, keeps nothing between calls and has no global
  *     state; it needs memcpy and memset, and no other symbol.
- *   - A state (gambyre_switch) goes in by value and the next one comes back by value. Go on with
- *     the one that came back.
+ *   - A state (gambyre_switch) goes in by value and the next one comes back by value. Go on with that one.
  *   - A list is lent for the time of the call, as a pointer and then its length in elements (not in bytes). A const list
  *     is only read. A pointer must be aligned for its elements and must not be NULL; where the length is 0, pass any
  *     other valid pointer.
@@ -262,7 +261,7 @@ gambyre_choice gambyre_choose(gambyre_multiplexer multiplexer, const uint16_t *r
  */
 gambyre_multiplexer gambyre_count(gambyre_multiplexer multiplexer, gambyre_choice choice);
 
-/* The end of a frame: the counts of the first n flows return to 0. */
+/* The end of a frame: the counts of the first n flows, 16 at most, return to 0. */
 gambyre_multiplexer gambyre_end_frame(gambyre_multiplexer multiplexer, size_t n);
 
 #ifdef __cplusplus

@@ -30,7 +30,7 @@ pub struct PortRecord {
     pub cell: u32,
 }
 
-// A multiplexer's choice. Where no flow is served, its number is 0.
+// A multiplexer's choice.
 #[repr(C)]
 pub struct ChoiceRecord {
     pub kind: u8,
@@ -108,7 +108,7 @@ pub fn choice_record(choice: Choice) -> ChoiceRecord
     }
 }
 
-// The choice that a caller hands over; every other kind is a flow.
+// The choice that a caller hands over; every kind but NO_FLOW is a flow.
 pub fn choice_in(choice: ChoiceRecord) -> Choice
     ensures { λ r. ⌜ r ≡ choiceIn choice ⌝ }
 {
