@@ -24,8 +24,8 @@
  *   - A list is lent for the time of the call, as a pointer and then its length in elements (not in bytes). A const list
  *     is only read. A pointer must be aligned for its elements and must not be NULL; where the length is 0, pass any
  *     other valid pointer.
- *   - A list that is written (not const) must not overlap any other list of the same call. Lists that are only read may be
- *     the same memory.
+ *   - A list that is written (not const) must not overlap any other list of the same call. Lists that are only read
+ *     may be the same memory.
  *   - Between an accepted start and the last call on its state, the store belongs to the queues: write it only by
  *     gambyre_arrive.
  *   - bool fields hold 0 or 1; no other byte may stand there. Bytes between the fields (padding) are unspecified:
@@ -207,7 +207,8 @@ gambyre_reply gambyre_load(gambyre_switch state, size_t n, uint32_t t, const uin
  * Runs the slot state.slot: in slot 0 a waiting plan takes over; all ports choose; each board moves the oldest cell of
  * the queue it chose to the crosspoint; then each head takes the oldest cell of the crosspoint it chose, also one that
  * was moved in this slot. Answers the next state and what each port did.
- * Refusals, in this order: 12, 7, 13. States that came from start, arrive, load and step never get 12 or 13.
+ * Refusals, in this order: 12, 7, 13. A state that came from an accepted start by these calls, with its store left
+ * alone, never gets 12 or 13.
  */
 gambyre_slot_reply gambyre_step(gambyre_switch state, const uint32_t *store, size_t store_len);
 
@@ -221,8 +222,8 @@ uint8_t gambyre_accept(size_t n, uint32_t t, const uint16_t *rates, size_t rates
  * Copies them to `out`, as many as it takes, leaves the rest of `out` as it is, and answers how many there are: n, or
  * 0 where n or i is out of range or either list is not n * n long.
  */
-size_t gambyre_desk_view(const uint16_t *running, size_t running_len, const uint16_t *waiting, size_t waiting_len, size_t n,
-                         size_t i, bool takeover, uint16_t *out, size_t out_len);
+size_t gambyre_desk_view(const uint16_t *running, size_t running_len, const uint16_t *waiting, size_t waiting_len,
+                         size_t n, size_t i, bool takeover, uint16_t *out, size_t out_len);
 
 /*
  * Writes rates in proportion to the demands: demand * t / the larger of its row and column sum, rounded down. They are
@@ -249,8 +250,8 @@ gambyre_reading gambyre_read(const uint8_t *bytes, size_t bytes_len);
 
 /*
  * The choice of a port in a slot of a frame. A flow of rate a > 0 that was served k times is eligible if
- * k * frame <= slot * a. The slot goes to the eligible flow with the smallest deadline, (k + 1) * frame / a rounded up, and of
- * equal ones to the lowest number. Only the first 16 rates count.
+ * k * frame <= slot * a. The slot goes to the eligible flow with the smallest deadline, (k + 1) * frame / a rounded
+ * up, and of equal ones to the lowest number. Only the first 16 rates count.
  */
 gambyre_choice gambyre_choose(gambyre_multiplexer multiplexer, const uint16_t *rates, size_t rates_len, uint32_t frame,
                               uint32_t slot);
