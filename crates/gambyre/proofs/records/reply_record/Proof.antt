@@ -1,0 +1,13 @@
+use borrow.Author.Needs.{needs}
+use mathlib.Core.Path.{refl}
+use Rattle.gambyre.proofs.records.reply_record.Statement.{statement}
+use Rattle.gambyre.proofs.records.reply_record.Tie as tie
+
+number-requires : tie.Need-number-requires
+number-requires c κs = search needs
+
+returns : tie.Need-returns
+returns c = rw (c .number .ensures) refl
+
+pub reply-record-spec : {M : Type 1} → statement M
+reply-record-spec = tie.close (tie.spec number-requires returns)

@@ -1,0 +1,156 @@
+// What the exported functions answer: the operations' answers with numbers in the place of their cases.
+ghost use mathlib.Core.Path.{_≡_};
+ghost use Rattle.gambyre.specs.Records.{answerRecord, portRecords, choiceRecord, choiceIn, replyRecord, slotRecord, readingRecord};
+use crossbar::state::Reply;
+use crossbar::state::SlotReply;
+use crossbar::state::Switch;
+use fabric::flow::Answer;
+use fabric::flow::Port;
+use multiplexer::Choice;
+use plan::Plan;
+use planfile::Reading;
+
+// The kinds of a port's answer.
+const IDLE: u8 = 0;
+
+const EMPTY: u8 = 1;
+
+const MOVED: u8 = 2;
+
+// The kinds of a choice.
+const NO_FLOW: u8 = 0;
+
+const FLOW: u8 = 1;
+
+// A port's answer. What a kind does not have is 0.
+#[repr(C)]
+pub struct PortRecord {
+    pub kind: u8,
+    pub other: usize,
+    pub cell: u32,
+}
+
+// A multiplexer's choice.
+#[repr(C)]
+pub struct ChoiceRecord {
+    pub kind: u8,
+    pub flow: usize,
+}
+
+#[repr(C)]
+pub struct ReplyRecord {
+    pub verdict: u8,
+    pub state: Switch,
+}
+
+#[repr(C)]
+pub struct SlotRecord {
+    pub verdict: u8,
+    pub state: Switch,
+    pub boards: [PortRecord; 16],
+    pub heads: [PortRecord; 16],
+}
+
+#[repr(C)]
+pub struct ReadingRecord {
+    pub verdict: u8,
+    pub plan: Plan,
+}
+
+fn port_record(port: Port) -> PortRecord
+    ensures { λ r. ⌜ r ≡ answerRecord (port .answer) ⌝ }
+{
+    let answer = port.answer;
+    match answer {
+        Answer::Idle => PortRecord {
+            kind: IDLE,
+            other: 0,
+            cell: 0,
+        },
+        Answer::Empty(other) => PortRecord {
+            kind: EMPTY,
+            other,
+            cell: 0,
+        },
+        Answer::Moved(other, cell) => PortRecord {
+            kind: MOVED,
+            other,
+            cell,
+        },
+    }
+}
+
+fn port_records(ports: [Port; 16]) -> [PortRecord; 16]
+    ensures { λ r. ⌜ r ≡ portRecords ports ⌝ }
+{
+    let mut records = [PortRecord {
+        kind: IDLE,
+        other: 0,
+        cell: 0,
+    }; 16];
+    for p in 0..16 {
+        let port = ports[p];
+        let record = port_record(port);
+        records[p] = record;
+    }
+    records
+}
+
+pub fn choice_record(choice: Choice) -> ChoiceRecord
+    ensures { λ r. ⌜ r ≡ choiceRecord choice ⌝ }
+{
+    match choice {
+        Choice::Idle => ChoiceRecord {
+            kind: NO_FLOW,
+            flow: 0,
+        },
+        Choice::Flow(flow) => ChoiceRecord { kind: FLOW, flow },
+    }
+}
+
+// The choice that a caller hands over; every kind but NO_FLOW is a flow.
+pub fn choice_in(choice: ChoiceRecord) -> Choice
+    ensures { λ r. ⌜ r ≡ choiceIn choice ⌝ }
+{
+    if choice.kind == NO_FLOW {
+        return Choice::Idle;
+    }
+    Choice::Flow(choice.flow)
+}
+
+pub fn reply_record(reply: Reply) -> ReplyRecord
+    ensures { λ r. ⌜ r ≡ replyRecord reply ⌝ }
+{
+    let verdict = reply.verdict;
+    let state = reply.state;
+    ReplyRecord {
+        verdict: verdict.number(),
+        state,
+    }
+}
+
+pub fn slot_record(reply: SlotReply) -> SlotRecord
+    ensures { λ r. ⌜ r ≡ slotRecord reply ⌝ }
+{
+    let verdict = reply.verdict;
+    let state = reply.state;
+    let boards = reply.boards;
+    let heads = reply.heads;
+    SlotRecord {
+        verdict: verdict.number(),
+        state,
+        boards: port_records(boards),
+        heads: port_records(heads),
+    }
+}
+
+pub fn reading_record(reading: Reading) -> ReadingRecord
+    ensures { λ r. ⌜ r ≡ readingRecord reading ⌝ }
+{
+    let verdict = reading.verdict;
+    let plan = reading.plan;
+    ReadingRecord {
+        verdict: verdict.number(),
+        plan,
+    }
+}

@@ -1,0 +1,92 @@
+/*
+ * One frame of a press with three boards and three heads, by nothing but gambyre.h and libgambyre.a. It follows
+ * flow (2, 1) of the plan below, which has 3 of the frame's 15 slots: what its board and its head do, slot by slot, and
+ * how many cells stand at its crosspoint.
+ *
+ *     rt staticlib gambyre
+ *     gcc -std=c99 -Wall -Wextra -Werror -O2 -I include examples/label_press.c target/staticlib/libgambyre.a \
+ *         -o target/label_press
+ *     target/label_press
+ *
+ * examples/label_press.txt has what it prints.
+ */
+#include "gambyre.h"
+
+#include <stdio.h>
+#include <stdlib.h>
+
+enum { N = 3, T = 15, Q = 4, BOARD = 2, HEAD = 1, FLOW = BOARD * N + HEAD };
+
+static const uint16_t rates[N * N] = {
+    13, 2, 0,
+    1, 10, 4,
+    1, 3, 11,
+};
+
+/* The host keeps both; the library keeps nothing between two calls. */
+static gambyre_switch state;
+static uint32_t store[N * N * Q];
+
+/* Stops at a verdict that this host did not count on. */
+static void expect(const char *call, uint8_t verdict, uint8_t expected) {
+    if (verdict != expected) {
+        printf("%s: verdict %d, expected %d\n", call, verdict, expected);
+        exit(EXIT_FAILURE);
+    }
+}
+
+static void start(void) {
+    gambyre_reply reply = gambyre_start(N, T, rates, N * N, Q, store, N * N * Q);
+    expect("start", reply.verdict, GAMBYRE_ACCEPTED);
+    state = reply.state;
+}
+
+/* A refused arrival hands the state back as it was, so the host goes on with it in either case. */
+static uint8_t arrive(uint32_t cell) {
+    gambyre_reply reply = gambyre_arrive(state, store, N * N * Q, BOARD, HEAD, cell);
+    state = reply.state;
+    if (reply.verdict == GAMBYRE_ACCEPTED) {
+        printf("cell %u queued\n", (unsigned)cell);
+    } else {
+        printf("cell %u refused, number %d\n", (unsigned)cell, reply.verdict);
+    }
+    return reply.verdict;
+}
+
+/* What a port did for the flow, whose other port is given. */
+static void print_port(gambyre_port port, size_t other) {
+    if (port.kind == GAMBYRE_IDLE || port.other != other) {
+        printf("  %-7s", "-");
+    } else if (port.kind == GAMBYRE_EMPTY) {
+        printf("  %-7s", "empty");
+    } else {
+        printf("  %-7u", (unsigned)port.cell);
+    }
+}
+
+static void step(void) {
+    gambyre_slot_reply reply = gambyre_step(state, store, N * N * Q);
+    expect("step", reply.verdict, GAMBYRE_ACCEPTED);
+    printf("%4u", (unsigned)state.slot);
+    print_port(reply.boards[BOARD], HEAD);
+    print_port(reply.heads[HEAD], BOARD);
+    printf("  %d\n", reply.state.crosspoints[FLOW].count);
+    state = reply.state;
+}
+
+int main(void) {
+    start();
+    for (uint32_t cell = 101; cell <= 100 + Q; cell++) {
+        expect("arrive", arrive(cell), GAMBYRE_ACCEPTED);
+    }
+    /* The queue holds Q cells now: this one is refused, and the host has to keep it. */
+    expect("arrive", arrive(101 + Q), GAMBYRE_QUEUE_FULL);
+
+    printf("slot  board %d  head %d   cells at (%d, %d)\n", BOARD, HEAD, BOARD, HEAD);
+    for (int slot = 0; slot < T; slot++) {
+        step();
+    }
+    /* Three cells left the queue, and two of them the crosspoint. */
+    printf("still queued: %d\n", state.queues[FLOW].count);
+    return state.queues[FLOW].count == Q - 3 && state.crosspoints[FLOW].count == 1 ? EXIT_SUCCESS : EXIT_FAILURE;
+}
