@@ -18,11 +18,12 @@ pub struct Move {
     pub port: Port,
 }
 
-// What the boards' services change.
+// What the boards' services change. With the ports between them, the compiler keeps the two long arrays apart and copies
+// neither once more on the way to the sends.
 pub struct Moves {
     pub queues: [Queue; 256],
-    pub crosspoints: [Crosspoint; 256],
     pub ports: [Port; 16],
+    pub crosspoints: [Crosspoint; 256],
 }
 
 // Whether a service leaves the crosspoint at two cells or fewer.
