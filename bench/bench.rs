@@ -3,6 +3,8 @@
 //! repeats, so that a pause of the machine doesn't count.
 //!
 //!     rustc --edition 2021 -O bench/bench.rs -L target/staticlib -o target/bench && target/bench
+//!
+//! `target/bench PORTS FRAME REPEATS` times one size, each batch that many times: for a profiler.
 
 #[path = "../tests"]
 mod tests {
@@ -19,20 +21,28 @@ use std::hint::black_box;
 use std::time::{Duration, Instant};
 
 const REPEATS: usize = 30;
+const SIZES: [(usize, u32); 2] = [(16, 4096), (4, 64)];
 const DEPTH: usize = 64;
 /// Whole frames are timed, at least this many slots.
 const SLOTS: u32 = 4096;
 const BATCH: u32 = 128;
 
 fn main() {
-    for (ports, frame) in [(16, 4096), (4, 64)] {
-        let rates = full_plan(ports, frame);
-        report(
-            &format!("slot, N = {ports}, T = {frame}, every line full, all queues busy"),
-            slot_times(ports, frame, &rates),
-        );
-        report(&format!("choice, N = {ports}, T = {frame}"), choice_times(frame, &rates[..ports]));
+    let arguments: Vec<u32> = std::env::args().skip(1).filter_map(|argument| argument.parse().ok()).collect();
+    match arguments[..] {
+        [] => SIZES.into_iter().for_each(|(ports, frame)| time(ports, frame, REPEATS)),
+        [ports, frame, repeats] => time(ports as usize, frame, repeats as usize),
+        _ => eprintln!("use: bench [ports frame repeats]"),
     }
+}
+
+fn time(ports: usize, frame: u32, repeats: usize) {
+    let rates = full_plan(ports, frame);
+    report(
+        &format!("slot, N = {ports}, T = {frame}, every line full, all queues busy"),
+        slot_times(ports, frame, &rates, repeats),
+    );
+    report(&format!("choice, N = {ports}, T = {frame}"), choice_times(frame, &rates[..ports], repeats));
 }
 
 /// Nanoseconds for one: proved, by value, in place.
@@ -55,7 +65,7 @@ fn full_plan(ports: usize, frame: u32) -> Vec<u16> {
     boosted
 }
 
-fn slot_times(ports: usize, frame: u32, rates: &[u16]) -> Times {
+fn slot_times(ports: usize, frame: u32, rates: &[u16], repeats: usize) -> Times {
     let store: Vec<u32> = (0..(ports * ports * DEPTH) as u32).collect();
     let fresh = Switch::start(ports, frame, rates, DEPTH, &store).expect("the plan is accepted");
     let fastest = rates.iter().map(|&rate| u32::from(rate)).max().unwrap_or(0);
@@ -65,7 +75,7 @@ fn slot_times(ports: usize, frame: u32, rates: &[u16]) -> Times {
     let implementations: [fn(&mut Switch, &[u32], u32); 3] = [proved_slots, by_value_slots, in_place_slots];
     let mut states = [fresh; 3];
     let mut best = vec![[Duration::MAX; 3]; slots.div_ceil(batch_slots) as usize];
-    for _ in 0..REPEATS {
+    for _ in 0..repeats {
         for (batch, best) in best.iter_mut().enumerate() {
             let slots = batch_slots.min(slots - batch as u32 * batch_slots);
             for ((step, state), best) in implementations.iter().zip(&mut states).zip(best) {
@@ -120,7 +130,7 @@ fn in_place_slots(state: &mut Switch, store: &[u32], slots: u32) {
 }
 
 /// One port's choices, each from the counts that it meets in the frame.
-fn choice_times(frame: u32, rates: &[u16]) -> Times {
+fn choice_times(frame: u32, rates: &[u16], repeats: usize) -> Times {
     let mut multiplexer = Multiplexer::ZERO;
     let mut met = Vec::new();
     for slot in 0..frame {
@@ -134,7 +144,7 @@ fn choice_times(frame: u32, rates: &[u16]) -> Times {
     let implementations: [fn(&[(u32, Multiplexer)], &[u16], u32); 3] =
         [proved_choices, by_value_choices, in_place_choices];
     let mut best = vec![[Duration::MAX; 3]; batches.len()];
-    for _ in 0..REPEATS * (SLOTS / frame) as usize {
+    for _ in 0..repeats * (SLOTS / frame) as usize {
         for (batch, best) in batches.iter().zip(&mut best) {
             for (choose, best) in implementations.iter().zip(best) {
                 let begun = Instant::now();

@@ -1,0 +1,22 @@
+#!/usr/bin/env bash
+# The tests beside the proofs: the program on plan files, the example in C, the model's test of itself, and the comparison
+# of the proved library with the model. Usage: tests/run.sh [SLOTS [SEED]], the slots to compare and where to begin.
+set -euo pipefail
+cd "$(dirname "$0")/.."
+slots=${1:-10000000}
+seed=${2:-5}
+
+rt check frame >target/frame.log || { cat target/frame.log; exit 1; }
+bash tests/frame.sh
+
+rt staticlib gambyre >target/gambyre.log || { cat target/gambyre.log; exit 1; }
+gcc -std=c99 -Wall -Wextra -Werror -O2 -I include examples/label_press.c target/staticlib/libgambyre.a \
+    -o target/label_press
+target/label_press >target/label_press.txt
+diff examples/label_press.txt target/label_press.txt
+echo "examples/label_press.c: built and printed as expected"
+
+rustc --edition 2021 -O --test tests/selftest.rs -o target/selftest
+target/selftest
+rustc --edition 2021 -O tests/compare.rs -L target/staticlib -o target/compare
+target/compare "$slots" "$seed"
