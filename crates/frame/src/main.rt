@@ -75,8 +75,8 @@ fn print_frame(plan: Plan)
     print_slots(state, cells, n, plan.frame);
 }
 
-// The longest plan file, of 16 ports, has 520 bytes. Of a longer one the first 521 are read: its head is whole, and
-// 521 is the length of no plan file, so that it gets the number which the whole file would get.
+// The longest plan file, of 16 ports, has 520 bytes. Of a longer one the first 521 are read: they hold its head, and 521 is
+// the length of no plan file, so that they are refused as the whole file is (proofs/CutLaws.antt).
 fn main() {
     let mut file = [0u8; 521];
     let len = io::read_full(STDIN_FILENO, &mut file);
