@@ -1,2 +1,4 @@
 pub mod DigitLaws
+pub mod TextLaws
+pub mod PrintoutLaws
 pub mod CutLaws

@@ -1,7 +1,9 @@
-// The lines of the printout. Each function writes into the line from the place `at` and answers the place behind.
+// The lines of the printout. Each function writes into a line from the place `at` and answers the place behind.
 ghost use Prim.Native.Nat.{_+_, _*_, _≤_};
 ghost use mathlib.Core.Path.{_≡_};
-ghost use lib.ListN.{length};
+ghost use lib.ListN.{length, take};
+ghost use Rattle.frame.specs.Text.{decimalOf, Written};
+ghost use Rattle.frame.specs.Printout.{namesOf, chosenOf, choiceOf, choicesOf, headerOf, slotLineOf, refusalLineOf};
 use fabric::flow::Answer;
 use fabric::flow::Port;
 use libc::STDOUT_FILENO;
@@ -17,9 +19,9 @@ pub fn print(line: [u8; LINE], len: usize)
     io::write_all(STDOUT_FILENO, &line[..len]);
 }
 
-fn put(line: &mut [u8; LINE], at: usize, text: &[u8]) -> usize
-    requires { ⌜ at + length (now text) ≤ 1024 ⌝ }
-    ensures { λ r. ⌜ r ≡ at + length (now (text .entry)) ⌝ }
+fn put(line: &mut [u8], at: usize, text: &[u8]) -> usize
+    requires { ⌜ at + length (now text) ≤ length (now line) ⌝ }
+    ensures { λ r. ⌜ Written (now (line .entry)) at (now (text .entry)) (now (line .exit)) r ⌝ }
 {
     for k in 0..text.len() {
         line[at + k] = text[k];
@@ -27,9 +29,9 @@ fn put(line: &mut [u8; LINE], at: usize, text: &[u8]) -> usize
     at + text.len()
 }
 
-fn number(line: &mut [u8; LINE], at: usize, value: u64) -> usize
-    requires { ⌜ at + 20 ≤ 1024 ⌝ }
-    ensures { λ r. ⌜ r ≤ at + 20 ⌝ }
+fn number(line: &mut [u8], at: usize, value: u64) -> usize
+    requires { ⌜ at + 20 ≤ length (now line) ⌝ }
+    ensures { λ r. ⌜ Written (now (line .entry)) at (decimalOf value) (now (line .exit)) r × (r ≤ at + 20) ⌝ }
 {
     let mut digits = [0u8; 20];
     let len = io::decimal(value, &mut digits);
@@ -37,9 +39,9 @@ fn number(line: &mut [u8; LINE], at: usize, value: u64) -> usize
 }
 
 // The names of the ports of one side.
-fn names(line: &mut [u8; LINE], start: usize, side: &[u8], n: usize) -> usize
-    requires { ⌜ (length (now side) ≤ 4) × (start + 24 * n ≤ 1024) ⌝ }
-    ensures { λ r. ⌜ r ≤ start + 24 * n ⌝ }
+fn names(line: &mut [u8], start: usize, side: &[u8], n: usize) -> usize
+    requires { ⌜ (length (now side) ≤ 4) × (start + 24 * n ≤ length (now line)) ⌝ }
+    ensures { λ r. ⌜ Written (now (line .entry)) start (namesOf (now (side .entry)) n) (now (line .exit)) r × (r ≤ start + 24 * n) ⌝ }
 {
     let mut at = start;
     for port in 0..n {
@@ -49,25 +51,31 @@ fn names(line: &mut [u8; LINE], start: usize, side: &[u8], n: usize) -> usize
     at
 }
 
+fn chosen(line: &mut [u8], at: usize, other: usize) -> usize
+    requires { ⌜ at + 21 ≤ length (now line) ⌝ }
+    ensures { λ r. ⌜ Written (now (line .entry)) at (chosenOf other) (now (line .exit)) r × (r ≤ at + 21) ⌝ }
+{
+    let next = put(line, at, b" ");
+    number(line, next, other as u64)
+}
+
 // The port that another one chose.
-fn choice(line: &mut [u8; LINE], at: usize, port: Port) -> usize
-    requires { ⌜ at + 21 ≤ 1024 ⌝ }
-    ensures { λ r. ⌜ r ≤ at + 21 ⌝ }
+fn choice(line: &mut [u8], at: usize, port: Port) -> usize
+    requires { ⌜ at + 21 ≤ length (now line) ⌝ }
+    ensures { λ r. ⌜ Written (now (line .entry)) at (choiceOf (port .answer)) (now (line .exit)) r × (r ≤ at + 21) ⌝ }
 {
     let answer = port.answer;
     match answer {
         Answer::Idle => put(line, at, b" -"),
-        Answer::Empty(other) | Answer::Moved(other, _) => {
-            let next = put(line, at, b" ");
-            number(line, next, other as u64)
-        }
+        Answer::Empty(other) => chosen(line, at, other),
+        Answer::Moved(other, _) => chosen(line, at, other),
     }
 }
 
 // The choices of the ports of one side.
-fn choices(line: &mut [u8; LINE], start: usize, ports: [Port; 16], n: usize) -> usize
-    requires { ⌜ (n ≤ 16) × (start + 21 * n ≤ 1024) ⌝ }
-    ensures { λ r. ⌜ r ≤ start + 21 * n ⌝ }
+fn choices(line: &mut [u8], start: usize, ports: [Port; 16], n: usize) -> usize
+    requires { ⌜ (n ≤ 16) × (start + 21 * n ≤ length (now line)) ⌝ }
+    ensures { λ r. ⌜ Written (now (line .entry)) start (choicesOf ports n) (now (line .exit)) r × (r ≤ start + 21 * n) ⌝ }
 {
     let mut at = start;
     for p in 0..n {
@@ -77,9 +85,9 @@ fn choices(line: &mut [u8; LINE], start: usize, ports: [Port; 16], n: usize) -> 
     at
 }
 
-pub fn header(line: &mut [u8; LINE], n: usize) -> usize
-    requires { ⌜ n ≤ 16 ⌝ }
-    ensures { λ r. ⌜ r ≤ 1024 ⌝ }
+pub fn header(line: &mut [u8], n: usize) -> usize
+    requires { ⌜ (n ≤ 16) × (1024 ≤ length (now line)) ⌝ }
+    ensures { λ r. ⌜ (take r (now (line .exit)) ≡ headerOf n) × (r ≤ 1024) ⌝ }
 {
     let slot = put(line, 0, b"slot");
     let boards = names(line, slot, b" in", n);
@@ -88,14 +96,14 @@ pub fn header(line: &mut [u8; LINE], n: usize) -> usize
 }
 
 pub fn slot_line(
-    line: &mut [u8; LINE],
+    line: &mut [u8],
     slot: u32,
     boards: [Port; 16],
     heads: [Port; 16],
     n: usize,
 ) -> usize
-    requires { ⌜ n ≤ 16 ⌝ }
-    ensures { λ r. ⌜ r ≤ 1024 ⌝ }
+    requires { ⌜ (n ≤ 16) × (1024 ≤ length (now line)) ⌝ }
+    ensures { λ r. ⌜ (take r (now (line .exit)) ≡ slotLineOf slot boards heads n) × (r ≤ 1024) ⌝ }
 {
     let boards_at = number(line, 0, slot as u64);
     let heads_at = choices(line, boards_at, boards, n);
@@ -103,8 +111,9 @@ pub fn slot_line(
     put(line, end, b"\n")
 }
 
-pub fn refusal_line(line: &mut [u8; LINE], verdict: Verdict) -> usize
-    ensures { λ r. ⌜ r ≤ 1024 ⌝ }
+pub fn refusal_line(line: &mut [u8], verdict: Verdict) -> usize
+    requires { ⌜ 1024 ≤ length (now line) ⌝ }
+    ensures { λ r. ⌜ (take r (now (line .exit)) ≡ refusalLineOf verdict) × (r ≤ 1024) ⌝ }
 {
     let at = put(line, 0, b"refused ");
     let end = number(line, at, verdict.number() as u64);

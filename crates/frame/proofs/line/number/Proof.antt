@@ -1,16 +1,25 @@
 use borrow.Author.Needs.{needs}
 use Prim.Native.Nat.{_≤_}
-use lib.ListN.{length, take}
+use mathlib.Core.Path.{_≡_, _∙_}
 use native.Mathlib.Omega.{arith}
-use Rattle.frame.proofs.DigitLaws.{digits-few}
+use lib.ListN.{length, take}
+use Rattle.frame.specs.Text.{decimalOf}
+use Rattle.frame.proofs.DigitLaws.{digits-few, digits-decimal}
+use Rattle.frame.proofs.TextLaws.{written-as}
 use Rattle.frame.proofs.line.number.Statement.{statement}
 use Rattle.frame.proofs.line.number.Tie as tie
 
--- the digits that are written
 few : (c : tie.After-decimal) → length (take (c .decimal .result) (c .decimal .last .1 .0)) ≤ 20
 few c =
     let n = c .decimal .ensures in
-    omega (arith, n .0 .1, digits-few (c .before .before .args .value) _ (c .before .before .fits .value .fits) (n .1 .0))
+    let s = c .before .before .before in
+    omega (arith, n .0 .1, digits-few (s .args .value) _ (s .fits .value .fits) (n .1 .0))
+
+spelled : (c : tie.After-decimal) → take (c .decimal .result) (c .decimal .last .1 .0) ≡ decimalOf (c .before .before .before .args .value)
+spelled c =
+    let n = c .decimal .ensures in
+    let s = c .before .before .before in
+    n .1 .1 ∙ digits-decimal (s .args .value) _ (s .fits .value .fits) (n .1 .0)
 
 decimal-requires : tie.Need-decimal-requires
 decimal-requires c κs = search needs
@@ -24,10 +33,22 @@ slice-aggregate-put c = search needs
 put-requires : tie.Need-put-requires
 put-requires c κs = omega (arith, few (c .before .before))
 
+same-length : tie.Need-same-length
+same-length c = search needs
+
 returns : tie.Need-returns
-returns c = omega (arith, few (c .before .before .before))
+returns c =
+    let p = c .before .before in
+    let d = p .before .before .before in
+    (written-as (p .put .ensures) (spelled d), omega (arith, few d, p .put .ensures .place))
 
 pub number-spec : {M : Type 1} → statement M
 number-spec =
     tie.close
-    (tie.spec decimal-requires array-share-prefix-digits slice-aggregate-put put-requires returns)
+    (tie.spec
+    decimal-requires
+    array-share-prefix-digits
+    slice-aggregate-put
+    put-requires
+    same-length
+    returns)
