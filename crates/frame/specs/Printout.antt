@@ -11,36 +11,51 @@ use Rattle.fabric.specs.declared.flow.Answer.the-variants.{Idle, Empty, Moved}
 use Rattle.fabric.specs.declared.flow.Port.{Port}
 use Rattle.frame.specs.Text.{decimalOf}
 
+-- "slot"
+abbrev slotName : List ℕ
+slotName = 115 ∷ 108 ∷ 111 ∷ 116 ∷ []
+
+-- " in", with the space that parts it from the field before
+abbrev inputName : List ℕ
+inputName = 32 ∷ 105 ∷ 110 ∷ []
+
+-- " out"
+abbrev outputName : List ℕ
+outputName = 32 ∷ 111 ∷ 117 ∷ 116 ∷ []
+
+-- "refused" and a space
+abbrev refusedName : List ℕ
+refusedName = 114 ∷ 101 ∷ 102 ∷ 117 ∷ 115 ∷ 101 ∷ 100 ∷ 32 ∷ []
+
 -- LF
-abbrev pub lineEnd : List ℕ
+abbrev lineEnd : List ℕ
 lineEnd = 10 ∷ []
 
--- the ports below n by a side's name: " in" or " out"
+-- the ports below n, each by its side's name and its number
 unfoldable pub namesOf : List ℕ → ℕ → List ℕ
 namesOf side zero = []
 namesOf side (suc p) = namesOf side p ++ side ++ decimalOf p
 
--- "slot", the inputs, the outputs
 unfoldable pub headerOf : ℕ → List ℕ
-headerOf n = (115 ∷ 108 ∷ 111 ∷ 116 ∷ []) ++ namesOf (32 ∷ 105 ∷ 110 ∷ []) n ++ namesOf (32 ∷ 111 ∷ 117 ∷ 116 ∷ []) n ++ lineEnd
+headerOf n = slotName ++ namesOf inputName n ++ namesOf outputName n ++ lineEnd
 
--- a space and the port that was chosen
+-- the port that was chosen
 abbrev pub chosenOf : ℕ → List ℕ
 chosenOf other = 32 ∷ decimalOf other
 
+-- "-" for idle
 abbrev pub choiceOf : Answer → List ℕ
 choiceOf Idle = 32 ∷ 45 ∷ []
 choiceOf (Empty other) = chosenOf other
 choiceOf (Moved other cell) = chosenOf other
 
 -- the choices of the ports below n
-unfoldable pub choicesOf : List Port → ℕ → List ℕ
-choicesOf ports zero = []
-choicesOf ports (suc p) = choicesOf ports p ++ choiceOf (answerOf ports p)
+unfoldable pub sideChoicesOf : List Port → ℕ → List ℕ
+sideChoicesOf ports zero = []
+sideChoicesOf ports (suc p) = sideChoicesOf ports p ++ choiceOf (answerOf ports p)
 
 unfoldable pub slotLineOf : ℕ → List Port → List Port → ℕ → List ℕ
-slotLineOf slot boards heads n = decimalOf slot ++ choicesOf boards n ++ choicesOf heads n ++ lineEnd
+slotLineOf slot boards heads n = decimalOf slot ++ sideChoicesOf boards n ++ sideChoicesOf heads n ++ lineEnd
 
--- "refused", a space and the number
 unfoldable pub refusalLineOf : Verdict → List ℕ
-refusalLineOf v = (114 ∷ 101 ∷ 102 ∷ 117 ∷ 115 ∷ 101 ∷ 100 ∷ 32 ∷ []) ++ decimalOf (verdictNumberOf v) ++ lineEnd
+refusalLineOf v = refusedName ++ decimalOf (verdictNumberOf v) ++ lineEnd

@@ -3,7 +3,7 @@ ghost use Prim.Native.Nat.{_+_, _*_, _≤_};
 ghost use mathlib.Core.Path.{_≡_};
 ghost use lib.ListN.{length, take};
 ghost use Rattle.frame.specs.Text.{decimalOf, Written};
-ghost use Rattle.frame.specs.Printout.{namesOf, chosenOf, choiceOf, choicesOf, headerOf, slotLineOf, refusalLineOf};
+ghost use Rattle.frame.specs.Printout.{namesOf, chosenOf, choiceOf, sideChoicesOf, headerOf, slotLineOf, refusalLineOf};
 use fabric::flow::Answer;
 use fabric::flow::Port;
 use libc::STDOUT_FILENO;
@@ -75,7 +75,7 @@ fn choice(line: &mut [u8], at: usize, port: Port) -> usize
 // The choices of the ports of one side.
 fn choices(line: &mut [u8], start: usize, ports: [Port; 16], n: usize) -> usize
     requires { ⌜ (n ≤ 16) × (start + 21 * n ≤ length (now line)) ⌝ }
-    ensures { λ r. ⌜ Written (now (line .entry)) start (choicesOf ports n) (now (line .exit)) r × (r ≤ start + 21 * n) ⌝ }
+    ensures { λ r. ⌜ Written (now (line .entry)) start (sideChoicesOf ports n) (now (line .exit)) r × (r ≤ start + 21 * n) ⌝ }
 {
     let mut at = start;
     for p in 0..n {

@@ -5,19 +5,19 @@ use lib.ListN.{length}
 use native.Mathlib.Omega.{arith}
 use Rattle.frame.proofs.TextLaws.{nothing-written, written-as, written-on}
 use Rattle.frame.specs.Text.{Written}
-use Rattle.frame.specs.Printout.{choicesOf}
+use Rattle.frame.specs.Printout.{sideChoicesOf}
 use Rattle.frame.proofs.PrintoutLaws.{choices-next}
 use Rattle.frame.proofs.line.choices.Statement.{statement}
 use Rattle.frame.proofs.line.choices.Tie as tie
 
 abbrev Inv-loop : tie.InvT-loop
-Inv-loop line₀ start n ports at₀ p₀ line at p = (p ≤ n) × (length line ≡ length line₀) × (at ≤ start + 21 * p) × Written line₀ start (choicesOf ports p) line at
+Inv-loop line₀ start n ports at₀ p₀ line at p = (p ≤ n) × (length line ≡ length line₀) × (at ≤ start + 21 * p) × Written line₀ start (sideChoicesOf ports p) line at
 
 abbrev μ-loop : tie.MeasureT-loop
 μ-loop line₀ start n ports at₀ p₀ line at p = n - p
 
 loop-holds : tie.Need-loop-holds Inv-loop μ-loop
-unfolding choicesOf
+unfolding sideChoicesOf
 loop-holds c = (omega arith, refl, omega arith, nothing-written _ _)
 
 mul-port : tie.Need-mul-port Inv-loop μ-loop
@@ -48,7 +48,7 @@ returns : tie.Need-returns Inv-loop μ-loop
 returns c =
     let l = c .before .loop in
     let all : l .p ≡ c .before .before .before .args .n = omega (arith, l .inv .0, c .loop-test .left) in
-    (written-as (l .inv .3) (ap (choicesOf _) all), omega (arith, l .inv .2, all))
+    (written-as (l .inv .3) (ap (sideChoicesOf _) all), omega (arith, l .inv .2, all))
 
 pub choices-spec : {M : Type 1} → statement M
 choices-spec =
