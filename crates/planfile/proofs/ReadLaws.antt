@@ -25,7 +25,7 @@ use Rattle.planfile.specs.Read.{ratesIn, verdictOf, planOf, readOf, File
 use Rattle.planfile.proofs.LayoutLaws.{rates-length, padded-take, padded-length, padded-past}
 
 -- two orders that begin with the same condition, and go on alike where it doesn't hold
-refuse-ext : (b : Bool) (r : Refusal) {v w : Verdict} → (b ≡ false → v ≡ w) → refuseIf b r v ≡ refuseIf b r w
+pub refuse-ext : (b : Bool) (r : Refusal) {v w : Verdict} → (b ≡ false → v ≡ w) → refuseIf b r v ≡ refuseIf b r w
 refuse-ext true r h = refl
 refuse-ext false r h = h refl
 

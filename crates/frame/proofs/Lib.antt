@@ -1,0 +1,5 @@
+pub mod DigitLaws
+pub mod TextLaws
+pub mod PrintoutLaws
+pub mod CutLaws
+pub mod Examples

@@ -1,0 +1,54 @@
+use borrow.Author.Needs.{needs}
+use Prim.Native.Nat.{_≤_}
+use mathlib.Core.Path.{_≡_, _∙_}
+use native.Mathlib.Omega.{arith}
+use lib.ListN.{length, take}
+use Rattle.frame.specs.Text.{decimalOf}
+use Rattle.frame.proofs.DigitLaws.{digits-few, digits-decimal}
+use Rattle.frame.proofs.TextLaws.{written-as}
+use Rattle.frame.proofs.line.number.Statement.{statement}
+use Rattle.frame.proofs.line.number.Tie as tie
+
+few : (c : tie.After-decimal) → length (take (c .decimal .result) (c .decimal .last .1 .0)) ≤ 20
+few c =
+    let n = c .decimal .ensures in
+    let s = c .before .before .before in
+    omega (arith, n .0 .1, digits-few (s .args .value) _ (s .fits .value .fits) (n .1 .0))
+
+spelled : (c : tie.After-decimal) → take (c .decimal .result) (c .decimal .last .1 .0) ≡ decimalOf (c .before .before .before .args .value)
+spelled c =
+    let n = c .decimal .ensures in
+    let s = c .before .before .before in
+    n .1 .1 ∙ digits-decimal (s .args .value) _ (s .fits .value .fits) (n .1 .0)
+
+decimal-requires : tie.Need-decimal-requires
+decimal-requires c κs = search needs
+
+array-share-prefix-digits : tie.Need-array-share-prefix-digits
+array-share-prefix-digits c = search needs
+
+slice-aggregate-put : tie.Need-slice-aggregate-put
+slice-aggregate-put c = search needs
+
+put-requires : tie.Need-put-requires
+put-requires c κs = omega (arith, few (c .before .before))
+
+same-length : tie.Need-same-length
+same-length c = search needs
+
+returns : tie.Need-returns
+returns c =
+    let p = c .before .before in
+    let d = p .before .before .before in
+    (written-as (p .put .ensures) (spelled d), omega (arith, few d, p .put .ensures .place))
+
+pub number-spec : {M : Type 1} → statement M
+number-spec =
+    tie.close
+    (tie.spec
+    decimal-requires
+    array-share-prefix-digits
+    slice-aggregate-put
+    put-requires
+    same-length
+    returns)

@@ -1,0 +1,70 @@
+// The limits of the switch, tried from both sides: case C11 of the scope, then the small example of each row of its
+// table "What is sent back" beside a neighbour that is accepted.
+use crate::plans::file;
+use crate::plans::frame;
+use crate::plans::plan;
+use crate::plans::ports;
+use crate::switches::arrivals;
+use crate::switches::crosspoint;
+use crate::switches::depth;
+use crate::switches::loads;
+use crate::switches::output;
+use crate::switches::places;
+use crate::switches::slot;
+
+mod plans;
+mod report;
+mod switches;
+
+fn case_11() {
+    arrivals(&mut [0; 64]);
+    frame(4096);
+    frame(4097);
+}
+
+fn plan_rows() {
+    ports(16, &[0; 256]);
+    ports(17, &[0; 289]);
+    frame(1);
+    frame(0);
+    plan(b"N = 2, 4 rates", 2, 3, &[0; 4]);
+    plan(b"N = 2, 3 rates", 2, 3, &[0; 3]);
+    plan(b"T = 3, row 1 2", 2, 3, &[1, 2, 0, 0]);
+    plan(b"T = 3, row 2 2", 2, 3, &[2, 2, 0, 0]);
+    plan(b"T = 3, rows 2 0 and 1 0", 2, 3, &[2, 0, 1, 0]);
+    plan(b"T = 3, rows 2 0 and 2 0", 2, 3, &[2, 0, 2, 0]);
+}
+
+fn switch_rows() {
+    depth(&[0; 64]);
+    depth(&[0; 65]);
+    depth(&[0; 1]);
+    depth(&[0; 0]);
+    places(&[0; 2]);
+    places(&[0; 3]);
+    loads();
+    output(1);
+    output(2);
+    arrivals(&mut [0; 1]);
+    slot(5);
+    slot(6);
+    crosspoint(1);
+    crosspoint(2);
+}
+
+fn file_rows() {
+    file(b"version 1", b"LSP\x01\x00\x01\x01\x00\x01\x00");
+    file(b"version 2", b"LSP\x02\x00\x01\x01\x00\x01\x00");
+    file(
+        b"file with a rate too many",
+        b"LSP\x01\x00\x01\x01\x00\x01\x00\x00\x00",
+    );
+    file(b"empty file", b"");
+}
+
+fn main() {
+    case_11();
+    plan_rows();
+    switch_rows();
+    file_rows();
+}

@@ -1,0 +1,64 @@
+#!/usr/bin/env bash
+# Runs the program `frame` on every plan file of examples/ and on the largest plan, and compares what it prints, byte by
+# byte. Usage: tests/frame.sh [PROGRAM], by default target/bin/frame, which 'rt check frame' builds.
+set -euo pipefail
+cd "$(dirname "$0")/.."
+program=${1:-target/bin/frame}
+
+fail() {
+    echo "tests/frame.sh: $*" >&2
+    exit 1
+}
+
+# same NAME COMMAND..: of standard input the program prints what the command prints. The dumps tell any two outputs apart.
+same() {
+    local name=$1 printed expected
+    shift
+    printed=$("$program" | od -A d -v -c) || fail "$name: the program failed"
+    expected=$("$@" | od -A d -v -c) || fail "$name: there is no expected printout"
+    [ "$printed" = "$expected" ] && return
+    comm -3 --nocheck-order <(echo "$printed") <(echo "$expected") 2>&1 | head -n 6 >&2 || true
+    fail "$name: not the expected printout; above are places where it differs, further right as expected"
+}
+
+# A plan of 16 ports and 4,096 slots: every rate is 256, so every line is full.
+full_plan() {
+    printf 'LSP\001\000\020\000\020'
+    printf '\000\001%.0s' {1..256}
+}
+
+# Its printout: all deadlines of a round of 16 slots are the same, so each port serves the others in order.
+full_printout() {
+    local slot
+    printf slot
+    printf ' in%d' {0..15}
+    printf ' out%d' {0..15}
+    printf '\n'
+    for ((slot = 0; slot < 4096; slot++)); do
+        printf '%d' "$slot"
+        printf " $((slot % 16))%.0s" {1..32}
+        printf '\n'
+    done
+}
+
+# A file that comes through a pipe in two pieces.
+in_pieces() {
+    head -c 9 "$1"
+    sleep 0.1
+    tail -c +10 "$1"
+}
+
+[ -x "$program" ] || fail "no program '$program': 'rt check frame' builds it"
+shopt -s globstar nullglob
+plans=(examples/**/*.lsp)
+[ ${#plans[@]} -gt 0 ] || fail "examples/ has no plan file"
+for plan in "${plans[@]}"; do
+    same "$plan" cat "${plan%.lsp}.txt" <"$plan"
+done
+in_pieces examples/three_boards.lsp | same "a plan in two pieces" cat examples/three_boards.txt
+
+full_plan | same "the plan with all lines full" full_printout
+lines=$(full_plan | "$program" | wc -l)
+[ "$lines" -eq 4097 ] || fail "the plan with all lines full: $lines lines, not 4,097"
+
+echo "tests/frame.sh: ${#plans[@]} example plans and the largest plan printed as expected"
