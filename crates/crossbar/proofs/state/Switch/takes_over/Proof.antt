@@ -3,10 +3,10 @@ use Rattle.crossbar.proofs.state.Switch.takes_over.Statement.{statement
 use Rattle.crossbar.proofs.state.Switch.takes_over.Tie as tie
 
 returns : tie.Need-returns
-returns c = simp (ne-eqb _ _ (c .if1 .taken))
+returns c = simp (ne-eqb (c .before .before .args .self .slot) 0 (c .if1 .taken))
 
 returns-2 : tie.Need-returns-2
-returns-2 c = simp (eq-eqb _ _ (c .if1 .left))
+returns-2 c = simp (eq-eqb (c .before .before .args .self .slot) 0 (c .if1 .left))
 
 pub takes-over-spec : {M : Type 1} → statement M
 takes-over-spec = tie.close (tie.spec returns returns-2)
