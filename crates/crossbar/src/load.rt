@@ -43,16 +43,18 @@ impl Switch {
                 state: self,
             };
         };
-        let running = self.running;
         let old = self.waiting.rates;
         let waiting = Plan {
             ports: n,
             frame: t,
             rates: overlay(old, rates, n * n),
         };
+        let mut s = self;
+        s.waiting = waiting;
+        s.waits = true;
         Reply {
             verdict: verdict,
-            state: self.with_plans(running, waiting, true),
+            state: s,
         }
     }
 }

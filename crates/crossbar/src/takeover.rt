@@ -1,22 +1,11 @@
 // The plans of the state: the takeover of a waiting plan in slot 0.
 ghost use mathlib.Core.Path.{_≡_};
-ghost use Rattle.crossbar.specs.Load.{withPlans};
 ghost use Rattle.crossbar.specs.Takeover.{takesOver, Takeable, takeoverOf};
 use crate::rates::overlay;
 use crate::state::Switch;
 use plan::Plan;
 
 impl Switch {
-    pub fn with_plans(self, running: Plan, waiting: Plan, waits: bool) -> Switch
-        ensures { λ r. ⌜ r ≡ withPlans self running waiting waits ⌝ }
-    {
-        let mut s = self;
-        s.running = running;
-        s.waiting = waiting;
-        s.waits = waits;
-        s
-    }
-
     pub fn takes_over(self) -> bool
         ensures { λ r. ⌜ r ≡ takesOver self ⌝ }
     {
@@ -31,26 +20,29 @@ impl Switch {
         requires { ⌜ Takeable self ⌝ }
         ensures { λ r. ⌜ r ≡ takeoverOf self ⌝ }
     {
-        if !self.takes_over() {
-            return self;
+        let mut s = self;
+        if self.takes_over() {
+            let n = self.waiting.ports;
+            let count = n * n;
+            let old = self.running.rates;
+            let taken = self.waiting.rates;
+            let zeros = [0u16; 256];
+            let replaced = overlay(old, &taken, count);
+            let cleared = overlay(taken, &zeros, count);
+            let running = Plan {
+                ports: n,
+                frame: self.waiting.frame,
+                rates: replaced,
+            };
+            let waiting = Plan {
+                ports: 0,
+                frame: 0,
+                rates: cleared,
+            };
+            s.running = running;
+            s.waiting = waiting;
+            s.waits = false;
         }
-        let n = self.waiting.ports;
-        let count = n * n;
-        let old = self.running.rates;
-        let taken = self.waiting.rates;
-        let zeros = [0u16; 256];
-        let replaced = overlay(old, &taken, count);
-        let cleared = overlay(taken, &zeros, count);
-        let running = Plan {
-            ports: n,
-            frame: self.waiting.frame,
-            rates: replaced,
-        };
-        let waiting = Plan {
-            ports: 0,
-            frame: 0,
-            rates: cleared,
-        };
-        self.with_plans(running, waiting, false)
+        s
     }
 }

@@ -33,16 +33,13 @@ returns c =
     cc (load-refused _ _ _ _ _ v)
 
 mul-overlay : tie.Need-mul-overlay
-mul-overlay c = omega (arith, room (c .before .before))
+mul-overlay c = omega (arith, room (c .before))
 
 overlay-requires : tie.Need-overlay-requires
-overlay-requires c κs = room (c .before .before)
-
-with-plans-requires : tie.Need-with-plans-requires
-with-plans-requires c κs = search needs
+overlay-requires c κs = room (c .before)
 
 returns-2 : tie.Need-returns-2
-returns-2 c = cc (load-accepted _ _ _ _ (pass (c .before .before .before .before)))
+returns-2 c = cc (load-accepted _ _ _ _ (pass (c .before .before)))
 
 pub load-spec : {M : Type 1} → statement M
 load-spec =
@@ -54,5 +51,4 @@ load-spec =
     returns
     mul-overlay
     overlay-requires
-    with-plans-requires
     returns-2)

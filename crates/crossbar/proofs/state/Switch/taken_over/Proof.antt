@@ -1,9 +1,8 @@
 use borrow.Author.Needs.{needs}
 use Prim.Native.Nat.{_*_, _≤_}
-use mathlib.Core.Path.{_≡_, sym}
+use mathlib.Core.Path.{_≡_, sym, _∙_}
 use mathlib.Core.Bool.{true}
 use native.Mathlib.Omega.{arith}
-use Rattle.plan.proofs.TestLaws.{failed, passed}
 use Rattle.plan.proofs.LineLaws.{square-small}
 use Rattle.crossbar.specs.Takeover.{takesOver}
 use Rattle.crossbar.proofs.RateLaws.{overlaid-zeros}
@@ -11,17 +10,14 @@ use Rattle.crossbar.proofs.TakeoverLaws.{not-taken, taken}
 use Rattle.crossbar.proofs.state.Switch.taken_over.Statement.{statement}
 use Rattle.crossbar.proofs.state.Switch.taken_over.Tie as tie
 
-takes : (c : tie.Else1) → takesOver (c .before .before .args .self) ≡ true
-takes c = passed (c .before .takes-over .ensures) (c .if1 .left)
+takes : (c : tie.Then1) → takesOver (c .before .before .args .self) ≡ true
+takes c = sym (c .before .takes-over .ensures) ∙ c .if1 .taken
 
-room : (c : tie.Else1) → let n = c .before .before .args .self .waiting .ports in n * n ≤ 256
+room : (c : tie.Then1) → let n = c .before .before .args .self .waiting .ports in n * n ≤ 256
 room c = square-small _ (c .before .before .pre .few (takes c))
 
 takes-over-requires : tie.Need-takes-over-requires
 takes-over-requires c κs = search needs
-
-returns : tie.Need-returns
-returns c = sym (not-taken _ (failed (c .before .takes-over .ensures) (c .if1 .taken)))
 
 mul-count : tie.Need-mul-count
 mul-count c = omega (arith, room c)
@@ -38,25 +34,24 @@ slice-aggregate-overlay-2 c = search needs
 overlay-requires-2 : tie.Need-overlay-requires-2
 overlay-requires-2 c κs = let e = room (c .before .before .before .before .before) in (e, e)
 
-with-plans-requires : tie.Need-with-plans-requires
-with-plans-requires c κs = search needs
+returns : tie.Need-returns
+returns c =
+    let s = c .before .before .before .before .before .before .before .before .args .self in
+    let n = s .waiting .ports in
+    cc (taken s (takes (c .before .before .before .before .before .before)), overlaid-zeros (s .waiting .rates) 256 (n * n))
 
 returns-2 : tie.Need-returns-2
-returns-2 c =
-    let s = c .before .before .before .before .before .before .before .before .before .args .self in
-    let n = s .waiting .ports in
-    cc (taken s (takes (c .before .before .before .before .before .before .before)), overlaid-zeros (s .waiting .rates) 256 (n * n))
+returns-2 c = sym (not-taken _ (sym (c .before .takes-over .ensures) ∙ c .if1 .left))
 
 pub taken-over-spec : {M : Type 1} → statement M
 taken-over-spec =
     tie.close
     (tie.spec
     takes-over-requires
-    returns
     mul-count
     slice-aggregate-overlay
     overlay-requires
     slice-aggregate-overlay-2
     overlay-requires-2
-    with-plans-requires
+    returns
     returns-2)
