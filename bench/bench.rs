@@ -2,9 +2,8 @@
 //! model in place, timed in turn in one run. A figure is made of short batches, each the best of several
 //! repeats, so that a pause of the machine doesn't count.
 //!
-//!     rustc --edition 2021 -O bench/bench.rs -L target/staticlib -o target/bench && target/bench
-//!
-//! `target/bench PORTS FRAME REPEATS` times one size, each batch that many times: for a profiler.
+//! `bench/run.sh` builds and runs it. With PORTS FRAME REPEATS it times one size, each batch that many times: for a
+//! profiler.
 
 #[path = "../tests"]
 mod tests {
