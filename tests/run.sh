@@ -1,7 +1,7 @@
 #!/usr/bin/env bash
 # The tests beside the proofs: the program on plan files, the example and the header in C, the model's test of itself, and the
-# comparison of the proved library with the model. Usage: tests/run.sh [SLOTS [SEED]], the slots to compare and where to
-# begin.
+# comparison of the proved library with the model. Usage: tests/run.sh [SLOTS [SEED]], how many slots are compared, and where
+# random numbers begin.
 set -euo pipefail
 cd "$(dirname "$0")/.."
 slots=${1:-10000000}
@@ -10,6 +10,8 @@ mkdir -p target
 
 rt check frame >target/frame.log 2>&1 || { cat target/frame.log; exit 1; }
 bash tests/frame.sh
+rustc --edition 2021 -O tests/plan_files.rs -o target/plan_files
+target/plan_files
 
 rt staticlib gambyre >target/gambyre.log 2>&1 || { cat target/gambyre.log; exit 1; }
 for host in examples/label_press tests/header; do

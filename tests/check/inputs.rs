@@ -170,7 +170,7 @@ impl<S: Operations> Inputs<'_, S> {
     }
 }
 
-fn plan_file(ports: u8, frame: u16, rates: &[u16]) -> Vec<u8> {
+pub fn plan_file(ports: u8, frame: u16, rates: &[u16]) -> Vec<u8> {
     let mut file = b"LSP\x01\0".to_vec();
     file.push(ports);
     file.extend(frame.to_le_bytes());

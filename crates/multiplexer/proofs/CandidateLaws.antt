@@ -74,12 +74,12 @@ module _ (c : Candidate) (f a : ℕ) where
       or-flow-changes due (omega (arith, lt-rounded ((k + 1) * T) a (c .deadline) pos l))
       ∙ simp (may, lt-ltb (deadline a k T) (c .deadline) l, quotient-rounded ((k + 1) * T) (due - 1) a (omega arith)))
       (λ (l : c .deadline ≤ deadline a k T).
-      or-flow-stays due (omega (arith, above-product k T pos l))
+      or-flow-stays due (omega (arith, above-product l))
       ∙ simp (may, le-ltb (deadline a k T) (c .deadline) l))
       (lt-or-le (deadline a k T) (c .deadline))
     where
-      above-product : (k T : ℕ) → 0 < a → c .deadline ≤ deadline a k T → c .deadline * a < k * T + T + a
-      above-product k T pos l =
+      above-product : c .deadline ≤ deadline a k T → c .deadline * a < k * T + T + a
+      above-product l =
           ⊎-elim
           (λ h. h)
           (λ (h : k * T + T + a ≤ c .deadline * a). absurd (omega (arith, rounded-lt ((k + 1) * T) a (c .deadline) pos (omega arith))))

@@ -17,8 +17,8 @@ noDeadline = 281474976710656
 abbrev pub never : ℕ
 never = 18446744073709551615
 
--- A deadline (k + 1) × T / a rounded up is below d exactly if this number is at most d × a; so deadlines are compared without a
--- division.
+-- Of an eligible flow: its deadline, (k + 1) × T / a rounded up, is below d exactly if this number is at most d × a, so that
+-- deadlines are compared without a division. Of another flow: too large for every d that is kept.
 unfoldable pub dueOf : ℕ → ℕ → ℕ → ℕ → ℕ
 dueOf a k T t = cond (eligible a k T t) (k * T + T + a) never
 
