@@ -1,7 +1,7 @@
 //! The second implementation of the switch, in plain Rust.
 //!
-//! It was written from the scope and the header alone, without a look at the proved code, so that a
-//! mistake in one is not likely to stand in the other. The records are laid out as in the header.
+//! It was written from the scope, docs/DECISIONS.md and a draft of the header, without a look at the proved
+//! code, so that a mistake in one is not likely to stand in the other. The records are laid out as in the header.
 //! Operations change their records in place; `by_value` has the same ones as state in, state out.
 #![allow(dead_code, unused_imports)] // each program that takes this module in uses its own part of it
 
