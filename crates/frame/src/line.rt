@@ -23,10 +23,7 @@ fn put(line: &mut [u8], at: usize, text: &[u8]) -> usize
     requires { ⌜ at + length (now text) ≤ length (now line) ⌝ }
     ensures { λ r. ⌜ Written (now (line .entry)) at (now (text .entry)) (now (line .exit)) r ⌝ }
 {
-    for k in 0..text.len() {
-        line[at + k] = text[k];
-    }
-    at + text.len()
+    at + bytes::copy(text, &mut line[at..])
 }
 
 fn number(line: &mut [u8], at: usize, value: u64) -> usize
