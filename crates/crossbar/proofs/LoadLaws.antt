@@ -4,7 +4,6 @@ use mathlib.Core.Path.{_≡_}
 use mathlib.Core.Bool.{not, _&&_}
 use mathlib.Core.List.{List}
 use lib.Dec.{eqb}
-use lib.ListN.{length}
 use borrow.Author.Tests.{not-false, eqb-true, eq-eqb}
 use Rattle.refusal.specs.declared.Refusal.{Refusal}
 use Rattle.refusal.specs.declared.Verdict.the-variants.{Accepted, Refused}
@@ -12,11 +11,9 @@ use Rattle.refusal.proofs.ChainLaws.{refuse-passed, then-passed}
 use Rattle.plan.specs.Accept.{acceptOf}
 use Rattle.plan.proofs.BelowLaws.{and-true}
 use Rattle.plan.proofs.AcceptLaws.{accepted, accepts}
-use Rattle.crossbar.specs.State.{planRates}
 use Rattle.crossbar.specs.Valid.{validOf}
 use Rattle.crossbar.specs.Load.{loadVerdict, CanLoad, withWaiting, loadOf}
 use Rattle.crossbar.specs.declared.state.Switch.{Switch}
-use Rattle.crossbar.proofs.RateLaws.{laid-rates}
 
 pub can-load : (s : Switch) (n t : ℕ) (rates : List ℕ) → loadVerdict s n t rates ≡ Accepted → CanLoad s n t rates
 unfolding loadVerdict
@@ -53,7 +50,3 @@ load-accepted s n t rates e = simp e
 pub load-refused : (s : Switch) (n t : ℕ) (rates : List ℕ) (r : Refusal) → loadVerdict s n t rates ≡ Refused r → loadOf s n t rates ≡ record { verdict = Refused r; state = s }
 unfolding loadOf
 load-refused s n t rates r e = simp e
-
--- the rates of a loaded plan are the given list
-pub loaded-rates : (s : Switch) (n t : ℕ) (rates : List ℕ) → length (s .waiting .rates) ≡ 256 → CanLoad s n t rates → planRates (withWaiting s n t rates .waiting) ≡ rates
-loaded-rates s n t rates full can = laid-rates (s .waiting .rates) n t rates full (can .plan)

@@ -17,13 +17,13 @@ overlaid-length array list zero = refl
 overlaid-length array list (suc k) = length-set (overlaid array list k) k (getD list k 0) ∙ overlaid-length array list k
 
 -- from count up, the array's number
-pub overlaid-above : (array list : List ℕ) (count k : ℕ) → count ≤ k → getD (overlaid array list count) k 0 ≡ getD array k 0
+overlaid-above : (array list : List ℕ) (count k : ℕ) → count ≤ k → getD (overlaid array list count) k 0 ≡ getD array k 0
 unfolding overlaid
 overlaid-above array list zero k h = refl
 overlaid-above array list (suc m) k h = getD-set-other (overlaid array list m) m k (getD list m 0) 0 (λ e. omega arith) ∙ overlaid-above array list m k (omega arith)
 
 -- below count, the list's number
-pub overlaid-at : (array list : List ℕ) (count k : ℕ) → k < count → count ≤ length array → getD (overlaid array list count) k 0 ≡ getD list k 0
+overlaid-at : (array list : List ℕ) (count k : ℕ) → k < count → count ≤ length array → getD (overlaid array list count) k 0 ≡ getD list k 0
 unfolding overlaid
 overlaid-at array list zero k h l = absurd (omega arith)
 overlaid-at array list (suc m) k h l =
@@ -33,7 +33,7 @@ overlaid-at array list (suc m) k h l =
     (below-or-last k m h)
 
 -- only the numbers below count matter
-pub overlaid-ext : (array list other : List ℕ) (count : ℕ) → ((k : ℕ) → k < count → getD list k 0 ≡ getD other k 0) → overlaid array list count ≡ overlaid array other count
+overlaid-ext : (array list other : List ℕ) (count : ℕ) → ((k : ℕ) → k < count → getD list k 0 ≡ getD other k 0) → overlaid array list count ≡ overlaid array other count
 unfolding overlaid
 overlaid-ext array list other zero h = refl
 overlaid-ext array list other (suc k) h = rw (overlaid-ext array list other k (λ m l. h m (omega arith)), h k (omega arith)) refl

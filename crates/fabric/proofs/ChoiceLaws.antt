@@ -22,9 +22,8 @@ use Rattle.multiplexer.proofs.PacedLaws.{chosen-eligible}
 use Rattle.multiplexer.proofs.PortLaws.{row-length, row-rate, column-length, column-rate}
 use Rattle.fabric.specs.Flow.{noMultiplexer}
 use Rattle.fabric.specs.Choices.{choicesOf, choiceAt, CanChoose, transposedRow, transposed}
-use Rattle.fabric.proofs.ListLaws.{getD-repeated}
 use Rattle.fabric.proofs.FlowLaws.{flow-small}
-use Rattle.fabric.proofs.TouchLaws.{untouched, settled, not-yet, done}
+use Rattle.fabric.proofs.TouchLaws.{untouched, settled, done}
 
 module _ (line : ℕ → List ℕ) (ports : List Multiplexer) (t slot : ℕ) where
   -- the ports below m
@@ -41,7 +40,7 @@ module _ (line : ℕ → List ℕ) (ports : List Multiplexer) (t slot : ℕ) whe
   unfolding choicesOf
   choices-step m f rates c e er ec = rw (add-one, ec, er, e)
 
-  pub choices-length : (m : ℕ) → length (after m) ≡ 16
+  choices-length : (m : ℕ) → length (after m) ≡ 16
   unfolding choicesOf
   choices-length zero = refl
   choices-length (suc m) = length-set (after m) m (choice m) ∙ choices-length m
@@ -49,10 +48,6 @@ module _ (line : ℕ → List ℕ) (ports : List Multiplexer) (t slot : ℕ) whe
   other : (m k : ℕ) → (k ≡ m → ⊥) → choiceAt (after (suc m)) k ≡ choiceAt (after m) k
   unfolding choicesOf
   other m k h = getD-set-other (after m) m k (choice m) Idle h
-
-  pub choices-idle : (m p : ℕ) → m ≤ p → choiceAt (after m) p ≡ Idle
-  unfolding choicesOf
-  choices-idle m p l = not-yet (λ m k. choiceAt (after m) k) other m p l ∙ getD-repeated 16 p Idle
 
   pub choices-at : (m p : ℕ) → p < m → m ≤ 16 → choiceAt (after m) p ≡ choice p
   unfolding choicesOf
@@ -66,14 +61,14 @@ module _ (line : ℕ → List ℕ) (ports : List Multiplexer) (t slot : ℕ) whe
         named = λ p q l is. omega (arith, chosen-eligible (line p) (getD ports p noMultiplexer .served) t slot q (sym (choices-at n p l few) ∙ is) .0, lines p l);
       }
 
-pub choices-ext : (line line′ : ℕ → List ℕ) (ports : List Multiplexer) (t slot m : ℕ) → ((p : ℕ) → p < m → line p ≡ line′ p)
+choices-ext : (line line′ : ℕ → List ℕ) (ports : List Multiplexer) (t slot m : ℕ) → ((p : ℕ) → p < m → line p ≡ line′ p)
     → choicesOf line ports t slot m ≡ choicesOf line′ ports t slot m
 unfolding choicesOf
 choices-ext line line′ ports t slot zero h = refl
 choices-ext line line′ ports t slot (suc m) h = rw (choices-ext line line′ ports t slot m (λ p l. h p (omega arith)), h m (omega arith)) refl
 
 -- the desk view of a row that there is
-pub desk-row : (running waiting : List ℕ) (n p : ℕ) (takeover : Bool) → n ≤ 16 → p < n → length running ≡ n * n → length waiting ≡ n * n
+desk-row : (running waiting : List ℕ) (n p : ℕ) (takeover : Bool) → n ≤ 16 → p < n → length running ≡ n * n → length waiting ≡ n * n
     → deskOf running waiting n p takeover ≡ rowOf (cond takeover waiting running) n p
 unfolding deskOf hasRow
 desk-row running waiting n p takeover few l er ew =
@@ -132,7 +127,7 @@ module _ (rates : List ℕ) (n : ℕ) where
   unfolding transposed
   rows-other m k h = row-elsewhere rates n m (transposed rates n m) n k (λ i l e. h (i, l, e))
 
-  pub transposed-at : n ≤ 16 → (i j : ℕ) → i < n → j < n → getD (transposed rates n n) (flowOf n j i) 0 ≡ getD rates (flowOf n i j) 0
+  transposed-at : n ≤ 16 → (i j : ℕ) → i < n → j < n → getD (transposed rates n n) (flowOf n j i) 0 ≡ getD rates (flowOf n i j) 0
   unfolding transposed
   transposed-at few i j hi hj =
       settled (λ m k. getD (transposed rates n m) k 0) in-row rows-other n j (flowOf n j i) hj (λ q lo hq (g, l, e). omega (arith, flow-one n j i q g hi l e .0))
@@ -142,10 +137,10 @@ module _ (rates : List ℕ) (n : ℕ) where
   abbrev pub columns : List ℕ
   columns = take (n * n) (transposed rates n n)
 
-  pub columns-length : n ≤ 16 → length columns ≡ n * n
+  columns-length : n ≤ 16 → length columns ≡ n * n
   columns-length few = omega (arith, length-take (n * n) (transposed rates n n), transposed-length n, square-small n few)
 
-  pub columns-row : n ≤ 16 → (j : ℕ) → j < n → rowOf columns n j ≡ columnOf rates n j
+  columns-row : n ≤ 16 → (j : ℕ) → j < n → rowOf columns n j ≡ columnOf rates n j
   columns-row few j hj =
       ext-getD 0 (rowOf columns n j) (columnOf rates n j)
       (row-length columns n j (columns-length few) hj ∙ sym (column-length rates n j))

@@ -32,7 +32,7 @@ module _ (n : ℕ) (ends : Bool) (choices : List Choice) (ports : List Multiplex
   unfolding countsOf
   other m k h = getD-set-other (after m) m k (counted m) noMultiplexer h
 
-  pub counts-past : (m p : ℕ) → m ≤ p → getD (after m) p noMultiplexer ≡ getD ports p noMultiplexer
+  counts-past : (m p : ℕ) → m ≤ p → getD (after m) p noMultiplexer ≡ getD ports p noMultiplexer
   unfolding countsOf
   counts-past m p l = not-yet (λ m k. getD (after m) k noMultiplexer) other m p l
 

@@ -57,7 +57,7 @@ module _ (n : ℕ) (choices : List Choice) (queues : List Queue) (points : List 
   room-fails m j k l c e r = all-fails _ n m l (sym (room-of m j k c e) ∙ r)
 
   -- what the test says of one board
-  pub room-at : roomForAll n choices queues points ≡ true → (i j : ℕ) → i < n → choiceAt choices i ≡ Flow j
+  room-at : roomForAll n choices queues points ≡ true → (i j : ℕ) → i < n → choiceAt choices i ≡ Flow j
       → roomIn (getD queues (flowOf n i j) noQueue) (getD points (flowOf n i j) noPoint) ≡ true
   unfolding roomForAll
   room-at h i j l c = room-of i j (flowOf n i j) c refl ∙ all-holds (λ p. roomFor n queues points p (choiceAt choices p)) n h i l
@@ -141,7 +141,7 @@ module _ (n depth : ℕ) (store : List ℕ) (choices : List Choice) (queues : Li
       }
 
   -- the row of board i is untouched until its turn
-  pub moves-before : NamesBelow n choices → (m i j : ℕ) → m ≤ i → m ≤ n → j < n
+  moves-before : NamesBelow n choices → (m i j : ℕ) → m ≤ i → m ≤ n → j < n
       → FlowIs (after m) (flowOf n i j) (getD queues (flowOf n i j) noQueue) (getD points (flowOf n i j) noPoint)
   moves-before named m i j before few hj = kept m (flowOf n i j) (λ p l s. omega (arith, only named p i j (omega arith) hj s .0))
 
@@ -187,7 +187,7 @@ module _ (n depth : ℕ) (store : List ℕ) (choices : List Choice) (queues : Li
       let is = moves-before named m m j (omega arith) (omega arith) (named m j l c) in
       rw (c, is .queue, is .point)
 
-  pub moves-answer-past : (m p : ℕ) → m ≤ p → answerOf (after m .ports) p ≡ answer.Idle
+  moves-answer-past : (m p : ℕ) → m ≤ p → answerOf (after m .ports) p ≡ answer.Idle
   unfolding movesOf
   moves-answer-past m p l =
       not-yet (λ m p. answerOf (after m .ports) p) answer-other m p l
@@ -236,6 +236,6 @@ module _ (n depth : ℕ) (store : List ℕ) (choices : List Choice) (queues : Li
   moves-passed named i j hj otherwise =
       kept n (flowOf n i j) (λ p l s. let at = only named p i j l hj s in otherwise (ap (choiceAt choices) (sym (at .0)) ∙ at .1))
 
-  -- what is held for ports from n up
+  -- "What the state holds for ports from N up is neither looked at nor changed."
   pub moves-past : NamesBelow n choices → (k : ℕ) → n * n ≤ k → FlowIs (after n) k (getD queues k noQueue) (getD points k noPoint)
   moves-past named k h = kept n k (λ p l (j, c, e). omega (arith, flow-below n p j l (named p j l c)))

@@ -97,7 +97,7 @@ module _ (n : ℕ) (choices : List Choice) (points : List Crosspoint) where
       let is = kept m (flowOf n i m) (λ p h s. omega (arith, only p i m (omega arith) l s .0)) in
       rw (c, is)
 
-  pub sends-answer-past : (m p : ℕ) → m ≤ p → answerOf (after m .ports) p ≡ answer.Idle
+  sends-answer-past : (m p : ℕ) → m ≤ p → answerOf (after m .ports) p ≡ answer.Idle
   unfolding sendsOf
   sends-answer-past m p l =
       not-yet (λ m p. answerOf (after m .ports) p) answer-other m p l
@@ -136,6 +136,6 @@ module _ (n : ℕ) (choices : List Choice) (points : List Crosspoint) where
   sends-passed i j hj otherwise =
       kept n (flowOf n i j) (λ p l s. let at = only p i j l hj s in otherwise (ap (choiceAt choices) (sym (at .0)) ∙ at .1))
 
-  -- what is held for ports from n up
+  -- "What the state holds for ports from N up is neither looked at nor changed."
   pub sends-past : NamesBelow n choices → (k : ℕ) → n * n ≤ k → getD (after n .crosspoints) k noPoint ≡ getD points k noPoint
   sends-past named k h = kept n k (λ p l (i, c, e). omega (arith, flow-below n i p (named p i l c) l))

@@ -85,7 +85,7 @@ module _ (c : Candidate) (f a : ℕ) where
           (λ (h : k * T + T + a ≤ c .deadline * a). absurd (omega (arith, rounded-lt ((k + 1) * T) a (c .deadline) pos (omega arith))))
           (lt-or-le (c .deadline * a) (k * T + T + a))
 
-  pub or-flow-after : (k T t due : ℕ) → c .deadline ≤ noDeadline → a < 65536 → due ≡ dueOf a k T t → orFlow c f a due ≡ after k T t
+  or-flow-after : (k T t due : ℕ) → c .deadline ≤ noDeadline → a < 65536 → due ≡ dueOf a k T t → orFlow c f a due ≡ after k T t
   unfolding dueOf
   or-flow-after k T t due within small e = go (eligible a k T t) refl
     where

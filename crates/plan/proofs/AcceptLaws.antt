@@ -3,23 +3,22 @@ use Prim.Native.Nat.{ℕ, _*_, _<_, _≤_}
 use mathlib.Core.Path.{_≡_, ap}
 use mathlib.Core.Bool.{true, not}
 use mathlib.Core.List.{List}
-use native.Mathlib.Omega.{arith}
 use lib.Dec.{leb}
-use lib.ListN.{length, getD}
+use lib.ListN.{length}
 use borrow.Author.Tests.{leb-true, le-leb, eqb-true, eq-eqb, not-false}
 use Rattle.refusal.specs.declared.Verdict.the-variants.{Accepted}
 use Rattle.refusal.proofs.ChainLaws.{refuse-passed}
-use Rattle.plan.specs.Lines.{flowOf, rowSum, columnSum, lineSum, isSquare}
+use Rattle.plan.specs.Lines.{rowSum, columnSum, lineSum, isSquare}
 use Rattle.plan.specs.Range.{portsInRange, frameInRange}
 use Rattle.plan.specs.Accept.{withinFrame, acceptOf, IsPlan}
-use Rattle.plan.proofs.BelowLaws.{all-holds, all-intro, all-ext, sum-term}
+use Rattle.plan.proofs.BelowLaws.{all-holds, all-intro, all-ext}
 use Rattle.plan.proofs.LineLaws.{row-line, column-line}
 use Rattle.plan.proofs.RangeLaws.{ports-range, frame-range, ports-in, frame-in}
 
-pub within-holds : (sum : ℕ → ℕ) (n t : ℕ) → withinFrame sum n t ≡ true → (k : ℕ) → k < n → sum k ≤ t
+within-holds : (sum : ℕ → ℕ) (n t : ℕ) → withinFrame sum n t ≡ true → (k : ℕ) → k < n → sum k ≤ t
 within-holds sum n t e k l = leb-true (sum k) t (all-holds (λ m. leb (sum m) t) n e k l)
 
-pub within-intro : (sum : ℕ → ℕ) (n t : ℕ) → ((k : ℕ) → k < n → sum k ≤ t) → withinFrame sum n t ≡ true
+within-intro : (sum : ℕ → ℕ) (n t : ℕ) → ((k : ℕ) → k < n → sum k ≤ t) → withinFrame sum n t ≡ true
 within-intro sum n t h = all-intro (λ m. leb (sum m) t) n (λ k l. le-leb (sum k) t (h k l))
 
 pub rows-within : (rates : List ℕ) (n t : ℕ) → withinFrame (lineSum rates n n 1) n t ≡ withinFrame (rowSum rates n) n t
@@ -58,8 +57,3 @@ accepts n t rates p =
       within-intro (rowSum rates n) n t (p .rows),
       within-intro (columnSum rates n) n t (p .columns),
     )
-
--- no rate is above t
-pub rate-within : (n t : ℕ) (rates : List ℕ) → IsPlan n t rates → (i j : ℕ) → i < n → j < n → getD rates (flowOf n i j) 0 ≤ t
-unfolding rowSum
-rate-within n t rates p i j hi hj = omega (arith, p .rows i hi, sum-term (λ k. getD rates (flowOf n i k) 0) n j hj)

@@ -30,7 +30,7 @@ pub sum-zero : (n : ℕ) → sumBelow (λ k. 0) n ≡ 0
 sum-zero zero = refl
 sum-zero (suc n) = omega (arith, sum-zero n)
 
-pub sum-add : (x y : ℕ → ℕ) (n : ℕ) → sumBelow (λ k. x k + y k) n ≡ sumBelow x n + sumBelow y n
+sum-add : (x y : ℕ → ℕ) (n : ℕ) → sumBelow (λ k. x k + y k) n ≡ sumBelow x n + sumBelow y n
 sum-add x y zero = refl
 sum-add x y (suc n) = omega (arith, sum-add x y n)
 

@@ -23,7 +23,7 @@ module _ (n t k : ℕ) (l : List ℕ) (p : IsPlan n t l) where
   abbrev upTo : ℕ → List ℕ
   upTo m = boostDiagonal n t k l m
 
-  pub diagonal-rises : (m : ℕ) → m ≤ n → Rises n t l (boostDiagonal n t k l m)
+  diagonal-rises : (m : ℕ) → m ≤ n → Rises n t l (boostDiagonal n t k l m)
   unfolding boostDiagonal
   diagonal-rises zero h = rises-same n t l p
   diagonal-rises (suc i) h =
@@ -52,7 +52,7 @@ unfolding boostDiagonals
 diagonal-turn n t k given l m p e em = (rw em (diagonal-rises n t k l p n (omega arith) .plan), rw (em, add-one, e))
 
 module _ (n t : ℕ) (l : List ℕ) (p : IsPlan n t l) where
-  pub diagonals-rise : (m : ℕ) → Rises n t l (boostDiagonals n t l m)
+  diagonals-rise : (m : ℕ) → Rises n t l (boostDiagonals n t l m)
   unfolding boostDiagonals
   diagonals-rise zero = rises-same n t l p
   diagonals-rise (suc k) =

@@ -21,10 +21,10 @@ use Rattle.regulator.proofs.OutcomeLaws.{lists-passed}
 
 -- shares
 
-pub share-none : (d t sum : ℕ) → d ≡ 0 → shareOf d t sum ≡ 0
+share-none : (d t sum : ℕ) → d ≡ 0 → shareOf d t sum ≡ 0
 share-none d t sum e = rw (eq-eqb d 0 e)
 
-pub share-part : (d t sum s : ℕ) → s ≤ sum → shareOf d t sum * s ≤ t * d
+share-part : (d t sum s : ℕ) → s ≤ sum → shareOf d t sum * s ≤ t * d
 share-part d t sum s h = go (eqb d 0) refl
   where
     go : (b : Bool) → eqb d 0 ≡ b → shareOf d t sum * s ≤ t * d
@@ -37,7 +37,7 @@ share-within d t sum h = div-le-of-le-mul sum (mul-le-mul-right t h)
 
 -- the scaled rates
 
-pub scaled-at : (n t : ℕ) (demands : List ℕ) (i j : ℕ) → i < n → j < n
+scaled-at : (n t : ℕ) (demands : List ℕ) (i j : ℕ) → i < n → j < n
     → getD (scaledOf n t demands) (flowOf n i j) 0 ≡ shareOf (getD demands (flowOf n i j) 0) t (largerSum demands n i j)
 unfolding scaledOf
 scaled-at n t demands i j hi hj =
@@ -45,21 +45,21 @@ scaled-at n t demands i j hi hj =
     ∙ ap (λ (a : ℕ). shareOf (getD demands (flowOf n i j) 0) t (largerSum demands n a (flowOf n i j % n))) (flow-row n i j hj)
     ∙ ap (λ (b : ℕ). shareOf (getD demands (flowOf n i j) 0) t (largerSum demands n i b)) (flow-column n i j hj)
 
-pub scaled-row : (n t : ℕ) (demands : List ℕ) (i : ℕ) → i < n → rowSum (scaledOf n t demands) n i ≤ t
+scaled-row : (n t : ℕ) (demands : List ℕ) (i : ℕ) → i < n → rowSum (scaledOf n t demands) n i ≤ t
 unfolding rowSum
 scaled-row n t demands i hi =
     shares-within (λ j. getD (scaledOf n t demands) (flowOf n i j) 0) (λ j. getD demands (flowOf n i j) 0) n t
     (λ j hj. rw (scaled-at n t demands i j hi hj) (share-part _ t _ (rowSum demands n i) (omega arith)))
     (λ j hj e. scaled-at n t demands i j hi hj ∙ share-none _ t _ e)
 
-pub scaled-column : (n t : ℕ) (demands : List ℕ) (j : ℕ) → j < n → columnSum (scaledOf n t demands) n j ≤ t
+scaled-column : (n t : ℕ) (demands : List ℕ) (j : ℕ) → j < n → columnSum (scaledOf n t demands) n j ≤ t
 unfolding columnSum
 scaled-column n t demands j hj =
     shares-within (λ i. getD (scaledOf n t demands) (flowOf n i j) 0) (λ i. getD demands (flowOf n i j) 0) n t
     (λ i hi. rw (scaled-at n t demands i j hi hj) (share-part _ t _ (columnSum demands n j) (omega arith)))
     (λ i hi e. scaled-at n t demands i j hi hj ∙ share-none _ t _ e)
 
-pub scaled-length : (n t : ℕ) (demands : List ℕ) → length (scaledOf n t demands) ≡ n * n
+scaled-length : (n t : ℕ) (demands : List ℕ) → length (scaledOf n t demands) ≡ n * n
 unfolding scaledOf
 scaled-length n t demands = length-list (scaledRate n t demands) (n * n)
 

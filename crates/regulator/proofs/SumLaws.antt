@@ -8,7 +8,7 @@ use Rattle.plan.specs.Below.{sumBelow}
 use Rattle.plan.proofs.BelowLaws.{lt-or-le, below-or-last, sum-ext, sum-mono, sum-zero, sum-const, sum-term, sum-share}
 
 -- terms of at most t that come to n × t are all t
-pub sum-full : (x : ℕ → ℕ) (n t : ℕ) → ((k : ℕ) → k < n → x k ≤ t) → sumBelow x n ≡ n * t → (k : ℕ) → k < n → x k ≡ t
+sum-full : (x : ℕ → ℕ) (n t : ℕ) → ((k : ℕ) → k < n → x k ≤ t) → sumBelow x n ≡ n * t → (k : ℕ) → k < n → x k ≡ t
 sum-full x zero t h e k l = absurd (omega arith)
 sum-full x (suc n) t h e k l =
     let most : sumBelow x n ≤ n * t = omega (arith, sum-mono x (λ m. t) n (λ m b. h m (omega arith)), sum-const t n) in

@@ -74,7 +74,7 @@ module _ {s : Switch} {store : List ℕ} (ok : Sound s store) (p q cell : ℕ) (
       go (yes e) = rw (e, queue-same) new
       go (no ne) = rw (queue-after i j hj ne) (old i j hi hj)
 
-  pub sound-arrive : Sound next filledStore
+  sound-arrive : Sound next filledStore
   sound-arrive =
       record {
         plan = ok .plan;
@@ -113,7 +113,7 @@ module _ {s : Switch} {store : List ℕ} (ok : Sound s store) (p q cell : ℕ) (
         go false e c f = refl
 
     -- the flow's cells are those before and, if it is this flow's, the one that arrived
-    pub queue-arrive : queueCells s store (flowOf n i j) ++ cond mine (cell ∷ []) [] ≡ queueCells next filledStore (flowOf n i j)
+    queue-arrive : queueCells s store (flowOf n i j) ++ cond mine (cell ∷ []) [] ≡ queueCells next filledStore (flowOf n i j)
     queue-arrive = go (ℕ-discrete (flowOf n i j) k)
       where
         go : Dec (flowOf n i j ≡ k) → queueCells s store (flowOf n i j) ++ cond mine (cell ∷ []) [] ≡ queueCells next filledStore (flowOf n i j)

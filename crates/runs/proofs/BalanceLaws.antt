@@ -38,7 +38,7 @@ module _ {T a t c d x b h m o eb eh : ℕ} (s : OneSlot T a t c d x b h m o eb e
       (lt-or-le b 1)
 
   -- before a service of the head's, the board is not behind
-  pub head-not-ahead : 1 ≤ h → d ≤ c
+  head-not-ahead : 1 ≤ h → d ≤ c
   head-not-ahead one =
       let close : d * T < (c + 1) * T = omega (arith, s .head-eligible one, s .board-near .late) in
       omega (arith, lt-of-mul-lt-mul-right T {m = d} {n = c + 1} close)

@@ -39,7 +39,7 @@ module _
     (knows : (s : Switch) (store : List ℕ) → Sound s store → FlowState n T i j s)
     (law : (s : Switch) (store : List ℕ) (e : Event) → Sound s store → Happens s store e → EventLaw n T i j s store e)
   where
-    pub sound-run : (s : Switch) (store : List ℕ) (es : List Event) → Sound s store → Follow s store es → Sound (finalState s es) (finalStore store es)
+    sound-run : (s : Switch) (store : List ℕ) (es : List Event) → Sound s store → Follow s store es → Sound (finalState s es) (finalStore store es)
     sound-run s store [] ok h = ok
     sound-run s store (e ∷ es) ok h = sound-run (stateAfter e) (storeAfter store e) es (keeps s store e ok (h .0)) (h .1)
 

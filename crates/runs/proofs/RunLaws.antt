@@ -26,7 +26,7 @@ pub final-state-append : (s : Switch) (a b : List Event) → finalState s (a ++ 
 final-state-append s [] b = refl
 final-state-append s (e ∷ a) b = final-state-append (stateAfter e) a b
 
-pub final-store-append : (store : List ℕ) (a b : List Event) → finalStore store (a ++ b) ≡ finalStore (finalStore store a) b
+final-store-append : (store : List ℕ) (a b : List Event) → finalStore store (a ++ b) ≡ finalStore (finalStore store a) b
 final-store-append store [] b = refl
 final-store-append store (e ∷ a) b = final-store-append (storeAfter store e) a b
 

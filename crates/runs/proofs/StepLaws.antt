@@ -71,11 +71,11 @@ module _ {u : Switch} {store : List ℕ} (ok : Sound u store) where
   abbrev headKs : ℕ → List ℕ
   headKs j = getD (u .heads) j noMultiplexer .served
 
-  pub board-chooses : (i : ℕ) → i < n → choiceAt (boardChoices u) i ≡ chooseOf (row i) (boardKs i) T (u .slot)
+  board-chooses : (i : ℕ) → i < n → choiceAt (boardChoices u) i ≡ chooseOf (row i) (boardKs i) T (u .slot)
   unfolding boardChoices
   board-chooses i hi = choices-at _ (u .boards) T (u .slot) n i hi (ok .plan .few-ports)
 
-  pub head-chooses : (j : ℕ) → j < n → choiceAt (headChoices u) j ≡ chooseOf (column j) (headKs j) T (u .slot)
+  head-chooses : (j : ℕ) → j < n → choiceAt (headChoices u) j ≡ chooseOf (column j) (headKs j) T (u .slot)
   unfolding headChoices
   head-chooses j hj = choices-at _ (u .heads) T (u .slot) n j hj (ok .plan .few-ports)
 
@@ -108,7 +108,7 @@ module _ {u : Switch} {store : List ℕ} (ok : Sound u store) where
       (chosen-eligible (column j) (headKs j) T (u .slot) i (sym (head-chooses j hj) ∙ c) .3)
 
   -- a crosspoint that its board serves has room
-  pub room-there : (i j : ℕ) → i < n → j < n → choiceAt (boardChoices u) i ≡ Flow j → pointAt u (flowOf n i j) .count < 2
+  room-there : (i j : ℕ) → i < n → j < n → choiceAt (boardChoices u) i ≡ Flow j → pointAt u (flowOf n i j) .count < 2
   room-there i j hi hj c =
       let close : boardCount u i j * T < (headCount u i j + 1) * T = omega (arith, board-may i j hi hj c, head-near ok i j hi hj .late) in
       omega (arith, lt-of-mul-lt-mul-right T {m = boardCount u i j} {n = headCount u i j + 1} close, ok .balanced i j hi hj)

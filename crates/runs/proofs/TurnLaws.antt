@@ -1,6 +1,6 @@
 -- What one slot's service, or none, makes of a flow: its queue and crosspoint, the cells that its ports answer, and how
 -- often they answer "empty".
-use Prim.Native.Nat.{ℕ, _+_, _-_, _<_, _≤_}
+use Prim.Native.Nat.{ℕ, _+_, _<_, _≤_}
 use mathlib.Core.Path.{_≡_, refl, sym, _∙_}
 use mathlib.Core.Bool.{Bool, true, false, cond}
 use mathlib.Core.List.{List, [], _++_, append-nil}

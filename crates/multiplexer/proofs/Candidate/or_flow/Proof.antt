@@ -1,5 +1,5 @@
 use Prim.Native.Nat.{_*_, _<_, _≤_}
-use mathlib.Core.Path.{_≡_, sym}
+use mathlib.Core.Path.{sym}
 use mathlib.Core.Logic.{⊎-elim}
 use native.Mathlib.Omega.{arith}
 use Rattle.plan.proofs.BelowLaws.{lt-or-le}
