@@ -68,8 +68,8 @@ static void step(void) {
     gambyre_slot_reply reply = gambyre_step(state, store, N * N * Q);
     expect("step", reply.verdict, GAMBYRE_ACCEPTED);
     printf("%4u", (unsigned)state.slot);
-    print_port(reply.boards[BOARD], HEAD);
-    print_port(reply.heads[HEAD], BOARD);
+    print_port(reply.moves[BOARD], HEAD);
+    print_port(reply.sends[HEAD], BOARD);
     printf("  %d\n", reply.state.crosspoints[FLOW].count);
     state = reply.state;
 }

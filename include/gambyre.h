@@ -28,8 +28,7 @@
  *     may be the same memory.
  *   - Between an accepted start and the last call on its state, the store belongs to the queues: write it only by
  *     gambyre_arrive.
- *   - bool fields hold 0 or 1; no other byte may stand there. Bytes between the fields (padding) are unspecified:
- *     compare field by field, not with memcmp.
+ *   - Bytes between the fields (padding) are unspecified: compare field by field, not with memcmp.
  *   - Records pass on the stack, and a call works there: leave it 64 KB.
  *
  * THREADS
@@ -114,7 +113,7 @@ typedef struct gambyre_crosspoint {
 /*
  * The state of a switch. 5688 bytes. It may be read at any time, stored, and made by hand: a state is refused with
  * GAMBYRE_STATE_INVALID if
- *   - its running plan is not accepted; or `waits` is true and the waiting plan is not, or has another N or T;
+ *   - its running plan is not accepted; or a plan waits and the waiting plan is not, or has another N or T;
  *   - depth is outside 1 to 64, or slot is not below T;
  *   - a queue's place is not below depth or its count is above it, or a crosspoint's count is above 2;
  *   - a service count is above its rate in the running plan, or is not 0 in slot 0.
@@ -123,7 +122,7 @@ typedef struct gambyre_crosspoint {
 typedef struct gambyre_switch {
     gambyre_plan running;                               /*    0 */
     gambyre_plan waiting;                               /*  528 */
-    bool waits;                                         /* 1056  whether a plan waits */
+    uint8_t waits;                                      /* 1056  0: no plan waits; any other number: one does */
     size_t depth;                                       /* 1064  Q */
     uint32_t slot;                                      /* 1072  the coming slot of the frame, from 0 */
     gambyre_queue queues[GAMBYRE_MOST_FLOWS];           /* 1076  by flow */
@@ -147,10 +146,10 @@ typedef struct gambyre_port {
 
 /* What a step answers. Ports from N up, and all ports of a refused step, are idle. 6464 bytes. */
 typedef struct gambyre_slot_reply {
-    uint8_t verdict;                         /*    0 */
-    gambyre_switch state;                    /*    8 */
-    gambyre_port boards[GAMBYRE_MOST_PORTS]; /* 5696 */
-    gambyre_port heads[GAMBYRE_MOST_PORTS];  /* 6080 */
+    uint8_t verdict;                        /*    0 */
+    gambyre_switch state;                   /*    8 */
+    gambyre_port moves[GAMBYRE_MOST_PORTS]; /* 5696  by board */
+    gambyre_port sends[GAMBYRE_MOST_PORTS]; /* 6080  by head */
 } gambyre_slot_reply;
 
 /* What the plan file's reader answers. 536 bytes. */

@@ -55,11 +55,11 @@ static void arrivals(void) {
     same("arrival", first.verdict, GAMBYRE_ACCEPTED);
     same("second arrival", gambyre_arrive(first.state, store, 1, 0, 0, 8).verdict, GAMBYRE_QUEUE_FULL);
     gambyre_slot_reply moved = gambyre_step(first.state, store, 1);
-    same("a board with a cell", moved.boards[0].kind, GAMBYRE_MOVED);
-    same("its cell", moved.boards[0].cell, 7);
-    same("a head with a cell", moved.heads[0].kind, GAMBYRE_MOVED);
-    same("a board without", gambyre_step(moved.state, store, 1).boards[0].kind, GAMBYRE_EMPTY);
-    same("a port from N up", moved.heads[1].kind, GAMBYRE_IDLE);
+    same("a board with a cell", moved.moves[0].kind, GAMBYRE_MOVED);
+    same("its cell", moved.moves[0].cell, 7);
+    same("a head with a cell", moved.sends[0].kind, GAMBYRE_MOVED);
+    same("a board without", gambyre_step(moved.state, store, 1).moves[0].kind, GAMBYRE_EMPTY);
+    same("a port from N up", moved.sends[1].kind, GAMBYRE_IDLE);
 }
 
 static void hand_made_states(void) {

@@ -5,6 +5,7 @@ use mathlib.Core.List.{List, [], _∷_, map}
 use lib.Dec.{eqb}
 use lib.ListN.{getD, replicate}
 use Rattle.refusal.specs.Chain.{ifAccepted}
+use Rattle.plan.specs.Range.{mostPorts}
 use Rattle.plan.specs.Lines.{flowOf}
 use Rattle.multiplexer.specs.Count.{servicesOf}
 use Rattle.multiplexer.specs.Frame.{frameOf}
@@ -23,7 +24,7 @@ use Rattle.runs.specs.Run.{definedRun}
 
 -- the choices of one port with these rates, slot by slot, in a frame of t slots that begins with counts 0
 abbrev pub flowsBySlot : ℕ → List ℕ → List Choice
-flowsBySlot t rates = frameOf rates (replicate 16 0) t
+flowsBySlot t rates = frameOf rates (replicate mostPorts 0) t
 
 -- The cases leave Q and the store free: queues of 4 cells, and a store of 0.
 abbrev pub depth : ℕ
@@ -53,10 +54,10 @@ servedBy (answer.Empty other) = Flow other
 servedBy (answer.Moved other cell) = Flow other
 
 abbrev pub inputAnswer : ℕ → SlotReply → Answer
-inputAnswer i r = answerOf (r .boards) i
+inputAnswer i r = answerOf (r .moves) i
 
 abbrev pub outputAnswer : ℕ → SlotReply → Answer
-outputAnswer j r = answerOf (r .heads) j
+outputAnswer j r = answerOf (r .sends) j
 
 -- whom input i served, and whom output j, slot by slot
 abbrev pub inputBySlot : ℕ → List Event → List Choice

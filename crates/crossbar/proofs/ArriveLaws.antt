@@ -11,11 +11,12 @@ use borrow.Author.Tests.{not-false, ltb-true, lt-ltb, leb-false, lt-leb}
 use Rattle.refusal.specs.declared.Refusal.{Refusal}
 use Rattle.refusal.specs.declared.Verdict.the-variants.{Accepted, Refused}
 use Rattle.refusal.proofs.ChainLaws.{refuse-passed}
+use Rattle.plan.specs.Range.{mostFlows}
 use Rattle.plan.specs.Lines.{flowOf}
 use Rattle.plan.proofs.BelowLaws.{and-true}
 use Rattle.plan.proofs.LineLaws.{row-within, flow-below, square-small}
 use Rattle.crossbar.specs.State.{queueAt, storeFits}
-use Rattle.fabric.specs.Flow.{cellPlace}
+use Rattle.fabric.specs.Flow.{mostDepth, cellPlace}
 use Rattle.crossbar.specs.Valid.{validOf}
 use Rattle.crossbar.specs.Arrive.{withQueues, longer, arriveVerdict, CanArrive, arriveOf}
 use Rattle.crossbar.specs.declared.state.Switch.{Switch}
@@ -70,16 +71,16 @@ arrive-refused s store i j cell r e = simp e
 -- the flow has a number in the lists, and its next cell a place in the store
 pub record Placed (s : Switch) (len i j : ℕ) : Type 0 where
   pub some : 1 ≤ s .depth
-  pub deep : s .depth ≤ 64
-  pub few : flowOf (s .running .ports) i j < 256
+  pub deep : s .depth ≤ mostDepth
+  pub few : flowOf (s .running .ports) i j < mostFlows
   pub within : (p : ℕ) → flowOf (s .running .ports) i j * s .depth + p % s .depth < len
-  pub small : len ≤ 16384
+  pub small : len ≤ mostFlows * mostDepth
 
 pub placed : (s : Switch) (len i j : ℕ) → CanArrive s len i j → Placed s len i j
 placed s len i j can =
     let n = s .running .ports in
     let v = valid s (can .valid) in
-    let square : n * n ≤ 256 = square-small n (v .running .few-ports) in
+    let square : n * n ≤ mostFlows = square-small n (v .running .few-ports) in
     let flow : flowOf n i j < n * n = flow-below n i j (can .board) (can .head) in
     record {
       some = v .some-place;

@@ -9,6 +9,7 @@ use lib.ListN.{length, getD}
 use borrow.Author.Tests.{not-false}
 use Rattle.refusal.specs.declared.Verdict.the-variants.{Accepted}
 use Rattle.refusal.proofs.ChainLaws.{refuse-passed}
+use Rattle.plan.specs.Range.{mostPorts, mostFlows}
 use Rattle.plan.specs.Desk.{rowOf}
 use Rattle.plan.proofs.BelowLaws.{and-true}
 use Rattle.multiplexer.specs.Window.{columnOf}
@@ -16,17 +17,13 @@ use Rattle.multiplexer.specs.declared.Choice.{Choice}
 use Rattle.multiplexer.specs.declared.Choice.the-variants as choice
 use Rattle.multiplexer.proofs.ChoiceLaws.{idle-none}
 use Rattle.multiplexer.proofs.PortLaws.{row-length, column-length}
-use Rattle.fabric.specs.Answer.{port, answerOf}
+use Rattle.fabric.specs.Answer.{answerOf}
 use Rattle.fabric.specs.Choices.{choiceAt, CanChoose}
-use Rattle.fabric.specs.Moves.{moveOf}
-use Rattle.fabric.specs.Sends.{sendOf}
-use Rattle.fabric.specs.declared.flow.Answer.the-variants.{Idle, Empty, Moved}
-use Rattle.fabric.specs.declared.flow.Crosspoint.{Crosspoint}
-use Rattle.fabric.specs.declared.flow.Queue.{Queue}
+use Rattle.fabric.specs.declared.flow.Answer.the-variants.{Idle}
 use Rattle.fabric.proofs.ChoiceLaws.{choices-at, choices-named}
-use Rattle.fabric.proofs.MoveLaws.{moves-served, moves-length}
-use Rattle.fabric.proofs.SendLaws.{sends-served}
-use Rattle.crossbar.specs.State.{planRates}
+use Rattle.fabric.proofs.MoveLaws.{move-serves, moves-served, moves-length}
+use Rattle.fabric.proofs.SendLaws.{send-serves, sends-served}
+use Rattle.crossbar.specs.State.{hasWaiting, planRates}
 use Rattle.crossbar.specs.Valid.{validOf, IsValid}
 use Rattle.crossbar.specs.Load.{withPlans}
 use Rattle.crossbar.specs.Takeover.{takesOver, replaced, cleared, takeoverOf}
@@ -35,29 +32,12 @@ use Rattle.crossbar.specs.declared.state.Switch.{Switch}
 use Rattle.crossbar.proofs.ValidLaws.{valid}
 use Rattle.crossbar.proofs.TakeoverLaws.{taken, not-taken, taken-rates}
 
--- a service is never answered by "idle"
-move-answers : (depth j cell : ℕ) (q : Queue) (x : Crosspoint) → moveOf depth j cell q x .port .answer ≡ Idle → ⊥
-unfolding moveOf
-move-answers depth j cell q x = go (eqb (q .count) 0) refl
-  where
-    go : (b : Bool) → eqb (q .count) 0 ≡ b → moveOf depth j cell q x .port .answer ≡ Idle → ⊥
-    go true e h = let l : Empty j ≡ Idle = rw e at h in let z : _≡_ {A = ℕ} 0 1 = cc in omega arith
-    go false e h = let l : Moved j cell ≡ Idle = rw e at h in let z : _≡_ {A = ℕ} 0 1 = cc in omega arith
-
-send-answers : (i : ℕ) (x : Crosspoint) → sendOf i x .port .answer ≡ Idle → ⊥
-unfolding sendOf
-send-answers i x = go (eqb (x .count) 0) refl
-  where
-    go : (b : Bool) → eqb (x .count) 0 ≡ b → sendOf i x .port .answer ≡ Idle → ⊥
-    go true e h = let l : Empty i ≡ Idle = rw e at h in let z : _≡_ {A = ℕ} 0 1 = cc in omega arith
-    go false e h = let l : Moved i (getD (x .cells) 0 0) ≡ Idle = rw e at h in let z : _≡_ {A = ℕ} 0 1 = cc in omega arith
-
 module _
     (u : Switch) (store : List ℕ)
-    (few : u .running .ports ≤ 16)
+    (few : u .running .ports ≤ mostPorts)
     (square : length (planRates (u .running)) ≡ u .running .ports * u .running .ports)
-    (queues-full : length (u .queues) ≡ 256)
-    (points-full : length (u .crosspoints) ≡ 256)
+    (queues-full : length (u .queues) ≡ mostFlows)
+    (points-full : length (u .crosspoints) ≡ mostFlows)
   where
     abbrev n : ℕ
     n = u .running .ports
@@ -79,9 +59,9 @@ module _
         go : (c : Choice) → choiceAt (boardChoices u) i ≡ c → choiceAt (boardChoices u) i ≡ choice.Idle
         go choice.Idle e = e
         go (choice.Flow j) e =
-            absurd (move-answers _ _ _ _ _ (sym (moves-served n (u .depth) store (boardChoices u) (u .queues) (u .crosspoints) boards-can queues-full points-full i j l e .answer) ∙ h))
+            absurd (move-serves _ _ _ _ _ (sym (moves-served n (u .depth) store (boardChoices u) (u .queues) (u .crosspoints) boards-can queues-full points-full i j l e .answer) ∙ h))
 
-    filled-full : length (slotMoves u store .crosspoints) ≡ 256
+    filled-full : length (slotMoves u store .crosspoints) ≡ mostFlows
     filled-full = moves-length n (u .depth) store (boardChoices u) (u .queues) (u .crosspoints) n .points-kept ∙ points-full
 
     head-idle : (j : ℕ) → j < n → answerOf (slotSends u store .ports) j ≡ Idle → choiceAt (headChoices u) j ≡ choice.Idle
@@ -90,7 +70,7 @@ module _
         go : (c : Choice) → choiceAt (headChoices u) j ≡ c → choiceAt (headChoices u) j ≡ choice.Idle
         go choice.Idle e = e
         go (choice.Flow i) e =
-            absurd (send-answers _ _ (sym (sends-served n (headChoices u) (slotMoves u store .crosspoints) heads-can filled-full i j l e .answer) ∙ h))
+            absurd (send-serves _ _ (sym (sends-served n (headChoices u) (slotMoves u store .crosspoints) heads-can filled-full i j l e .answer) ∙ h))
 
     slot-idles : IdlesOnly u (slotReply u store)
     unfolding boardChoices headChoices
@@ -117,9 +97,9 @@ idles-only s store size e =
 
     go : (b : Bool) → takesOver s ≡ b → IdlesOnly (takeoverOf s) (slotReply (takeoverOf s) store)
     go true t =
-        let w = and-true (eqb (s .slot) 0) (s .waits) t .1 in
+        let w = and-true (eqb (s .slot) 0) (hasWaiting s) t .1 in
         let p = rules .waiting w in
         rw (taken s t)
-        (slot-idles (withPlans s (replaced (s .running) (s .waiting)) (cleared (s .waiting)) false) store (p .few-ports)
+        (slot-idles (withPlans s (replaced (s .running) (s .waiting)) (cleared (s .waiting)) 0) store (p .few-ports)
         (ap length (taken-rates (s .running) (s .waiting) (p .few-ports) (size .running) (size .waiting)) ∙ p .square) (size .queues) (size .points))
     go false t = rw (not-taken s t) (slot-idles s store (rules .running .few-ports) (rules .running .square) (size .queues) (size .points))

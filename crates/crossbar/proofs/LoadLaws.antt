@@ -11,6 +11,7 @@ use Rattle.refusal.proofs.ChainLaws.{refuse-passed, then-passed}
 use Rattle.plan.specs.Accept.{acceptOf}
 use Rattle.plan.proofs.BelowLaws.{and-true}
 use Rattle.plan.proofs.AcceptLaws.{accepted, accepts}
+use Rattle.crossbar.specs.State.{hasWaiting}
 use Rattle.crossbar.specs.Valid.{validOf}
 use Rattle.crossbar.specs.Load.{loadVerdict, CanLoad, withWaiting, loadOf}
 use Rattle.crossbar.specs.declared.state.Switch.{Switch}
@@ -21,7 +22,7 @@ can-load s n t rates e =
     let first = refuse-passed (not (validOf s)) _ _ e in
     let second = then-passed (acceptOf n t rates) _ (first .1) in
     let third = refuse-passed (not (eqb n (s .running .ports) && eqb t (s .running .frame))) _ _ (second .1) in
-    let fourth = refuse-passed (s .waits) _ _ (third .1) in
+    let fourth = refuse-passed (hasWaiting s) _ _ (third .1) in
     let same = and-true (eqb n (s .running .ports)) (eqb t (s .running .frame)) (not-false _ (third .0)) in
     record {
       valid = not-false _ (first .0);

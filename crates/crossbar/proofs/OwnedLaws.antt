@@ -10,6 +10,7 @@ use mir.Val.{Val}
 use denote.Laws.{Is}
 use denote.Struct.Declared.{row}
 use borrow.Kind.Array.{eInt, good-length}
+use Rattle.plan.specs.Range.{mostPorts, mostFlows}
 use Rattle.plan.specs.declared.Plan.{Plan}
 use Rattle.plan.proofs.Plan.{the-type}
 use Rattle.plan.proofs.LineLaws.{square-small}
@@ -17,13 +18,13 @@ use Rattle.crossbar.specs.State.{planRates}
 
 module _ (p : Plan) (vs : List Val) (owned : Is (row the-type) p vs) where
   -- `owned` has a part for each field of the struct, and the rates are the third
-  pub rates-full : length (p .rates) ≡ 256
+  pub rates-full : length (p .rates) ≡ mostFlows
   rates-full =
       let same : ℕ → ℕ = λ x. x in
-      sym (length-map (p .rates) same) ∙ good-length (eInt w16) 256 (map same (p .rates)) _ (owned .1 .1 .1 .1 .0)
+      sym (length-map (p .rates) same) ∙ good-length (eInt w16) mostFlows (map same (p .rates)) _ (owned .1 .1 .1 .1 .0)
 
-  pub rates-cover : p .ports ≤ 16 → p .ports * p .ports ≤ length (p .rates)
+  pub rates-cover : p .ports ≤ mostPorts → p .ports * p .ports ≤ length (p .rates)
   rates-cover few = omega (arith, rates-full, square-small (p .ports) few)
 
-  pub rates-square : p .ports ≤ 16 → length (planRates p) ≡ p .ports * p .ports
+  pub rates-square : p .ports ≤ mostPorts → length (planRates p) ≡ p .ports * p .ports
   rates-square few = length-take-le _ (p .rates) (rates-cover few)

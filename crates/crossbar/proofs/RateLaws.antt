@@ -1,11 +1,13 @@
 -- Lists of rates in the arrays of a plan: what stands where, and that a plan's rates are the list laid over its array.
-use Prim.Native.Nat.{ℕ, zero, suc, _*_, _<_, _≤_}
+use Prim.Native.Nat.{ℕ, zero, suc, _+_, _*_, _<_, _≤_}
 use mathlib.Core.Path.{_≡_, refl, sym, _∙_}
 use mathlib.Core.List.{List, []}
 use mathlib.Core.Logic.{⊎-elim}
+use native.Mathlib.Numerals.{add-one}
 use native.Mathlib.Omega.{arith}
-use lib.ListN.{length, getD, take, replicate, length-set}
+use lib.ListN.{length, getD, set, take, replicate, length-set}
 use lib.Seq.{getD-set-same, getD-set-other, getD-take, length-take-le, ext-getD}
+use Rattle.plan.specs.Range.{mostFlows}
 use Rattle.plan.specs.Accept.{IsPlan}
 use Rattle.plan.proofs.BelowLaws.{below-or-last}
 use Rattle.plan.proofs.LineLaws.{square-small}
@@ -15,6 +17,15 @@ pub overlaid-length : (array list : List ℕ) (count : ℕ) → length (overlaid
 unfolding overlaid
 overlaid-length array list zero = refl
 overlaid-length array list (suc k) = length-set (overlaid array list k) k (getD list k 0) ∙ overlaid-length array list k
+
+-- one place more
+pub overlaid-next : (array list : List ℕ) (k : ℕ) (f : List ℕ) → f ≡ overlaid array list k → set f k (getD list k 0) ≡ overlaid array list (k + 1)
+unfolding overlaid
+overlaid-next array list k f e = rw (add-one, e)
+
+pub overlaid-none : (array list : List ℕ) → array ≡ overlaid array list 0
+unfolding overlaid
+overlaid-none array list = refl
 
 -- from count up, the array's number
 overlaid-above : (array list : List ℕ) (count k : ℕ) → count ≤ k → getD (overlaid array list count) k 0 ≡ getD array k 0
@@ -59,5 +70,5 @@ take-overlaid array list count e h =
     (λ k l. getD-take count (overlaid array list count) k 0 (omega arith) ∙ overlaid-at array list count k (omega arith) h)
 
 -- a plan that is accepted is the one read from its array
-pub laid-rates : (array : List ℕ) (n t : ℕ) (rates : List ℕ) → length array ≡ 256 → IsPlan n t rates → take (n * n) (overlaid array rates (n * n)) ≡ rates
+pub laid-rates : (array : List ℕ) (n t : ℕ) (rates : List ℕ) → length array ≡ mostFlows → IsPlan n t rates → take (n * n) (overlaid array rates (n * n)) ≡ rates
 laid-rates array n t rates e p = take-overlaid array rates (n * n) (p .square) (omega (arith, square-small n (p .few-ports)))

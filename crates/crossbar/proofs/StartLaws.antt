@@ -8,6 +8,7 @@ use borrow.Author.Tests.{not-false}
 use Rattle.refusal.specs.declared.Refusal.{Refusal}
 use Rattle.refusal.specs.declared.Verdict.the-variants.{Accepted, Refused}
 use Rattle.refusal.proofs.ChainLaws.{refuse-passed, then-passed}
+use Rattle.plan.specs.Range.{mostFlows}
 use Rattle.plan.specs.Accept.{acceptOf, IsPlan}
 use Rattle.plan.proofs.AcceptLaws.{accepted, accepts}
 use Rattle.crossbar.specs.State.{planRates, depthInRange, storeFits}
@@ -53,4 +54,4 @@ start-refused n t rates depth store r e = simp e
 
 -- the rates of a started plan are the given list
 pub started-rates : (n t : ℕ) (rates : List ℕ) → IsPlan n t rates → planRates (planOf n t rates) ≡ rates
-started-rates n t rates p = laid-rates (replicate 256 0) n t rates refl p
+started-rates n t rates p = laid-rates (replicate mostFlows 0) n t rates refl p

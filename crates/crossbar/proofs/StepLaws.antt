@@ -7,6 +7,7 @@ use native.Mathlib.Omega.{arith}
 use lib.Dec.{eqb}
 use lib.ListN.{length, take}
 use lib.Seq.{length-take-le}
+use Rattle.plan.specs.Range.{mostPorts, mostFlows}
 use Rattle.plan.specs.Desk.{rowOf, deskOf}
 use Rattle.plan.specs.declared.Plan.{Plan}
 use Rattle.plan.proofs.BelowLaws.{and-true}
@@ -23,7 +24,7 @@ use Rattle.fabric.specs.declared.moves.Moves.{Moves}
 use Rattle.fabric.specs.declared.sends.Sends.{Sends}
 use Rattle.fabric.specs.Choices.{choicesOf, CanChoose}
 use Rattle.fabric.proofs.ChoiceLaws.{choices-by-rows, choices-named}
-use Rattle.crossbar.specs.State.{queueAt, planRates, storeFits}
+use Rattle.crossbar.specs.State.{hasWaiting, queueAt, planRates, storeFits}
 use Rattle.crossbar.specs.Valid.{validOf, IsValid}
 use Rattle.crossbar.specs.Load.{withPlans}
 use Rattle.crossbar.specs.Takeover.{takesOver, replaced, cleared, takeoverOf, Takeable}
@@ -33,7 +34,7 @@ use Rattle.crossbar.specs.declared.state.Switch.{Switch}
 use Rattle.crossbar.proofs.TakeoverLaws.{taken, not-taken, taken-rates}
 
 -- The rates that rule a slot are the first N × N of one of the two arrays.
-module _ (running waiting : Plan) (few : running .ports ≤ 16) (full : length (running .rates) ≡ 256) (full-waiting : length (waiting .rates) ≡ 256) where
+module _ (running waiting : Plan) (few : running .ports ≤ mostPorts) (full : length (running .rates) ≡ mostFlows) (full-waiting : length (waiting .rates) ≡ mostFlows) where
   abbrev n : ℕ
   n = running .ports
 
@@ -42,10 +43,10 @@ module _ (running waiting : Plan) (few : running .ports ≤ 16) (full : length (
   ruling-rates true same =
       let e = same refl in
       ap (λ (m : ℕ). take (m * m) (waiting .rates)) e
-      ∙ sym (taken-rates running waiting (subst (λ (m : ℕ). m ≤ 16) e few) full full-waiting)
+      ∙ sym (taken-rates running waiting (subst (λ (m : ℕ). m ≤ mostPorts) e few) full full-waiting)
   ruling-rates false same = refl
 
-  square : (rates : List ℕ) → length rates ≡ 256 → length (take (n * n) rates) ≡ n * n
+  square : (rates : List ℕ) → length rates ≡ mostFlows → length (take (n * n) rates) ≡ n * n
   square rates e = length-take-le (n * n) rates (omega (arith, square-small n few))
 
   -- what the desk view hands to the boards
@@ -88,16 +89,16 @@ pub slot-is : (s : Switch) (store : List ℕ) (boards heads : List Choice) (move
         boards = boards-after;
         heads = heads-after;
       };
-      boards = moves .ports;
-      heads = sends .ports;
+      moves = moves .ports;
+      sends = sends .ports;
     })
     (slotReply s store)
 unfolding afterSlot
 slot-is s store boards heads moves sends boards-after heads-after slot eb eh em es ea ec et = rw (et, ec, ea, es, em, eh, eb) refl
 
 module _ (s : Switch) (v : IsValid s) where
-  waits : takesOver s ≡ true → s .waits ≡ true
-  waits e = and-true (eqb (s .slot) 0) (s .waits) e .1
+  waits : takesOver s ≡ true → hasWaiting s ≡ true
+  waits e = and-true (eqb (s .slot) 0) (hasWaiting s) e .1
 
   pub takeable : Takeable s
   takeable = record { few = λ e. v .waiting (waits e) .few-ports }
@@ -125,7 +126,7 @@ module _ (s : Switch) (v : IsValid s) where
     where
       go : (b : Bool) → takesOver s ≡ b → roomForAll (s .running .ports) (boardChoices (takeoverOf s)) (s .queues) (s .crosspoints) ≡ hasRoom (takeoverOf s)
       go true e =
-          let u = withPlans s (replaced (s .running) (s .waiting)) (cleared (s .waiting)) false in
+          let u = withPlans s (replaced (s .running) (s .waiting)) (cleared (s .waiting)) 0 in
           rw (taken s e) (ap (λ (m : ℕ). roomForAll m (boardChoices u) (s .queues) (s .crosspoints)) (v .same-ports (waits e)))
       go false e = rw (not-taken s e) refl
 
@@ -146,7 +147,7 @@ module _ (s : Switch) (v : IsValid s) where
           room = room;
         }
 
-    runs-taken : s .waits ≡ true → Runs (withPlans s (replaced (s .running) (s .waiting)) (cleared (s .waiting)) false)
+    runs-taken : hasWaiting s ≡ true → Runs (withPlans s (replaced (s .running) (s .waiting)) (cleared (s .waiting)) 0)
     runs-taken w chosen room =
         let p = v .same-ports w in
         record {

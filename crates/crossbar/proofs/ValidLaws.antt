@@ -16,8 +16,8 @@ use Rattle.plan.specs.declared.Plan.{Plan}
 use Rattle.plan.proofs.BelowLaws.{and-true, all-holds, all-intro}
 use Rattle.plan.proofs.AcceptLaws.{accepted, accepts}
 use Rattle.multiplexer.specs.declared.Multiplexer.{Multiplexer}
-use Rattle.fabric.specs.Flow.{noQueue, noPoint, noMultiplexer}
-use Rattle.crossbar.specs.State.{planRates, depthInRange, storeFits}
+use Rattle.fabric.specs.Flow.{mostDepth, crosspointDepth, noQueue, noPoint, noMultiplexer}
+use Rattle.crossbar.specs.State.{hasWaiting, planRates, depthInRange}
 use Rattle.crossbar.specs.Valid.{planValid, samePorts, plansValid, flowValid, flowsValid, countValid, portValid, portsValid, validOf, IsPlanOf, IsValid}
 use Rattle.fabric.specs.declared.flow.Queue.{Queue}
 use Rattle.fabric.specs.declared.flow.Crosspoint.{Crosspoint}
@@ -63,30 +63,26 @@ module _ (p q : Plan) (waits : Bool) where
   unfolding plansValid
   frames-left a w b e = simp (a, w, b, eq-eqb (p .ports) (q .ports) e)
 
--- Q and the store.
+-- Q.
 
-pub depth-range : (depth : ℕ) → depthInRange depth ≡ true → (1 ≤ depth) × (depth ≤ 64)
+pub depth-range : (depth : ℕ) → depthInRange depth ≡ true → (1 ≤ depth) × (depth ≤ mostDepth)
 unfolding depthInRange
 depth-range depth e =
-    let both = and-true (leb 1 depth) (leb depth 64) e in
-    (leb-true 1 depth (both .0), leb-true depth 64 (both .1))
+    let both = and-true (leb 1 depth) (leb depth mostDepth) e in
+    (leb-true 1 depth (both .0), leb-true depth mostDepth (both .1))
 
-pub depth-in : (depth : ℕ) → 1 ≤ depth → depth ≤ 64 → depthInRange depth ≡ true
+pub depth-in : (depth : ℕ) → 1 ≤ depth → depth ≤ mostDepth → depthInRange depth ≡ true
 unfolding depthInRange
-depth-in depth lo hi = simp (le-leb 1 depth lo, le-leb depth 64 hi)
-
-pub store-length : (n depth len : ℕ) → storeFits n depth len ≡ true → len ≡ n * n * depth
-unfolding storeFits
-store-length n depth len e = eqb-true len (n * n * depth) e
+depth-in depth lo hi = simp (le-leb 1 depth lo, le-leb depth mostDepth hi)
 
 -- Queues and crosspoints.
 
 abbrev FlowWithin : ℕ → Queue → Crosspoint → Type 0
-FlowWithin depth q x = (q .place < depth) × (q .count ≤ depth) × (x .count ≤ 2)
+FlowWithin depth q x = (q .place < depth) × (q .count ≤ depth) × (x .count ≤ crosspointDepth)
 
 flow-valid : (depth : ℕ) (q : Queue) (x : Crosspoint) → flowValid depth q x ≡ true → FlowWithin depth q x
 flow-valid depth q x e =
-    let last = and-true (ltb (q .place) depth && leb (q .count) depth) (leb (x .count) 2) e in
+    let last = and-true (ltb (q .place) depth && leb (q .count) depth) (leb (x .count) crosspointDepth) e in
     let both = and-true (ltb (q .place) depth) (leb (q .count) depth) (last .0) in
     (ltb-true _ _ (both .0), leb-true _ _ (both .1), leb-true _ _ (last .1))
 
@@ -160,14 +156,14 @@ module _ (s : Switch) where
   pub valid : validOf s ≡ true → IsValid s
   unfolding validOf
   valid e =
-      let h = all-six (plansValid (s .running) (s .waiting) (s .waits)) (depthInRange (s .depth)) (ltb (s .slot) (s .running .frame)) (flowsValid (s .queues) (s .crosspoints) n (s .depth)) (portsValid rates (s .boards) n n 1 (s .slot)) (portsValid rates (s .heads) n 1 n (s .slot)) e in
-      let waiting = waiting-valid (s .running) (s .waiting) (s .waits) (h .0) in
+      let h = all-six (plansValid (s .running) (s .waiting) (hasWaiting s)) (depthInRange (s .depth)) (ltb (s .slot) (s .running .frame)) (flowsValid (s .queues) (s .crosspoints) n (s .depth)) (portsValid rates (s .boards) n n 1 (s .slot)) (portsValid rates (s .heads) n 1 n (s .slot)) e in
+      let waiting = waiting-valid (s .running) (s .waiting) (hasWaiting s) (h .0) in
       let depth = depth-range (s .depth) (h .1) in
       let flow = flows-valid (s .queues) (s .crosspoints) n (s .depth) (h .3) in
       let board : CountsWithin rates (s .boards) n (flowOf n) (s .slot) = λ i j li lj. rw (board-place i j) at (ports-valid rates (s .boards) n n 1 (s .slot) (h .4) i j li lj) in
       let head : CountsWithin rates (s .heads) n (λ j i. flowOf n i j) (s .slot) = λ j i lj li. rw (head-place i j) at (ports-valid rates (s .heads) n 1 n (s .slot) (h .5) j i lj li) in
       record {
-        running = running-valid (s .running) (s .waiting) (s .waits) (h .0);
+        running = running-valid (s .running) (s .waiting) (hasWaiting s) (h .0);
         waiting = λ w. waiting w .0;
         same-ports = λ w. waiting w .1;
         same-frame = λ w. waiting w .2;
@@ -187,7 +183,7 @@ module _ (s : Switch) where
   unfolding validOf
   is-valid v =
       simp (
-        plans-are-valid (s .running) (s .waiting) (s .waits) (v .running) (v .waiting) (v .same-ports) (v .same-frame),
+        plans-are-valid (s .running) (s .waiting) (hasWaiting s) (v .running) (v .waiting) (v .same-ports) (v .same-frame),
         depth-in (s .depth) (v .some-place) (v .few-places),
         lt-ltb (s .slot) (s .running .frame) (v .in-frame),
         flows-are-valid (s .queues) (s .crosspoints) n (s .depth) (λ k l. (v .queue-place k l, v .queue-count k l, v .crosspoint-count k l)),

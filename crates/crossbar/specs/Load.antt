@@ -2,7 +2,7 @@
 -- below N are written.
 use Prim.Native.Nat.{ℕ, _*_}
 use mathlib.Core.Path.{_≡_}
-use mathlib.Core.Bool.{Bool, true, false, not, _&&_}
+use mathlib.Core.Bool.{true, false, not, _&&_}
 use mathlib.Core.List.{List}
 use lib.Dec.{eqb}
 use Rattle.refusal.specs.Chain.{refuseIf, andThen, ifAccepted}
@@ -11,12 +11,13 @@ use Rattle.refusal.specs.declared.Verdict.{Verdict}
 use Rattle.refusal.specs.declared.Verdict.the-variants.{Accepted}
 use Rattle.plan.specs.Accept.{acceptOf, IsPlan}
 use Rattle.plan.specs.declared.Plan.{Plan}
+use Rattle.crossbar.specs.State.{hasWaiting}
 use Rattle.crossbar.specs.Valid.{validOf}
 use Rattle.crossbar.specs.Rates.{overlaid}
 use Rattle.crossbar.specs.declared.state.Switch.{Switch}
 use Rattle.crossbar.specs.declared.state.Reply.{Reply}
 
-abbrev pub withPlans : Switch → Plan → Plan → Bool → Switch
+abbrev pub withPlans : Switch → Plan → Plan → ℕ → Switch
 withPlans s running waiting waits =
     record {
       running = running;
@@ -35,7 +36,7 @@ loadVerdict s n t rates =
     refuseIf (not (validOf s)) StateInvalid
     (andThen (acceptOf n t rates)
     (refuseIf (not (eqb n (s .running .ports) && eqb t (s .running .frame))) PlanMismatch
-    (refuseIf (s .waits) PlanWaits
+    (refuseIf (hasWaiting s) PlanWaits
     Accepted)))
 
 -- When a load is accepted. proofs/LoadLaws.antt has that it is then, and only then.
@@ -44,11 +45,11 @@ pub record CanLoad (s : Switch) (n t : ℕ) (rates : List ℕ) : Type 0 where
   pub plan : IsPlan n t rates
   pub ports : n ≡ s .running .ports
   pub frame : t ≡ s .running .frame
-  pub free : s .waits ≡ false
+  pub free : hasWaiting s ≡ false
 
 -- a state with a plan laid into its waiting one
 abbrev pub withWaiting : Switch → ℕ → ℕ → List ℕ → Switch
-withWaiting s n t rates = withPlans s (s .running) (record { ports = n; frame = t; rates = overlaid (s .waiting .rates) rates (n * n) }) true
+withWaiting s n t rates = withPlans s (s .running) (record { ports = n; frame = t; rates = overlaid (s .waiting .rates) rates (n * n) }) 1
 
 unfoldable pub loadOf : Switch → ℕ → ℕ → List ℕ → Reply
 loadOf s n t rates =

@@ -2,17 +2,19 @@
 -- the store." Order: 1 to 7.
 use Prim.Native.Nat.{ℕ, _*_, _≤_}
 use mathlib.Core.Path.{_≡_}
-use mathlib.Core.Bool.{false, not}
+use mathlib.Core.Bool.{not}
 use mathlib.Core.List.{List}
 use lib.ListN.{length, replicate}
 use Rattle.refusal.specs.Chain.{refuseIf, andThen, ifAccepted}
 use Rattle.refusal.specs.declared.Refusal.the-variants.{DepthOutOfRange, StoreLength}
 use Rattle.refusal.specs.declared.Verdict.{Verdict}
 use Rattle.refusal.specs.declared.Verdict.the-variants.{Accepted}
+use Rattle.plan.specs.Range.{mostPorts, mostFlows}
 use Rattle.plan.specs.Accept.{acceptOf, IsPlan}
 use Rattle.plan.specs.NoPlan.{noPlan}
 use Rattle.plan.specs.declared.Plan.{Plan}
 use Rattle.multiplexer.specs.declared.Multiplexer.{Multiplexer}
+use Rattle.fabric.specs.Flow.{mostDepth, crosspointDepth}
 use Rattle.crossbar.specs.State.{depthInRange, storeFits}
 use Rattle.crossbar.specs.Rates.{overlaid}
 use Rattle.fabric.specs.declared.flow.Queue.{Queue}
@@ -24,10 +26,10 @@ abbrev pub emptyQueue : Queue
 emptyQueue = record { place = 0; count = 0 }
 
 abbrev pub emptyPoint : Crosspoint
-emptyPoint = record { cells = replicate 2 0; count = 0 }
+emptyPoint = record { cells = replicate crosspointDepth 0; count = 0 }
 
 abbrev pub restedPort : Multiplexer
-restedPort = record { served = replicate 16 0 }
+restedPort = record { served = replicate mostPorts 0 }
 
 -- a state that runs a plan, with no cell and no service
 unfoldable pub freshWith : Plan → ℕ → Switch
@@ -35,17 +37,17 @@ freshWith plan depth =
     record {
       running = plan;
       waiting = noPlan;
-      waits = false;
+      waits = 0;
       depth = depth;
       slot = 0;
-      queues = replicate 256 emptyQueue;
-      crosspoints = replicate 256 emptyPoint;
-      boards = replicate 16 restedPort;
-      heads = replicate 16 restedPort;
+      queues = replicate mostFlows emptyQueue;
+      crosspoints = replicate mostFlows emptyPoint;
+      boards = replicate mostPorts restedPort;
+      heads = replicate mostPorts restedPort;
     }
 
 abbrev pub planOf : ℕ → ℕ → List ℕ → Plan
-planOf n t rates = record { ports = n; frame = t; rates = overlaid (replicate 256 0) rates (n * n) }
+planOf n t rates = record { ports = n; frame = t; rates = overlaid (replicate mostFlows 0) rates (n * n) }
 
 unfoldable pub startVerdict : ℕ → ℕ → List ℕ → ℕ → ℕ → Verdict
 startVerdict n t rates depth len =
@@ -58,7 +60,7 @@ startVerdict n t rates depth len =
 pub record CanStart (n t : ℕ) (rates : List ℕ) (depth len : ℕ) : Type 0 where
   pub plan : IsPlan n t rates
   pub some-cell : 1 ≤ depth
-  pub few-cells : depth ≤ 64
+  pub few-cells : depth ≤ mostDepth
   pub store : len ≡ n * n * depth
 
 unfoldable pub startOf : ℕ → ℕ → List ℕ → ℕ → List ℕ → Reply

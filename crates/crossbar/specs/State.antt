@@ -1,15 +1,19 @@
 -- The parts of the state by flow and port.
 use Prim.Native.Nat.{ℕ, _*_}
-use mathlib.Core.Bool.{Bool, _&&_}
+use mathlib.Core.Bool.{Bool, not, _&&_}
 use mathlib.Core.List.{List}
 use lib.Dec.{leb, eqb}
 use lib.ListN.{getD, take}
 use Rattle.plan.specs.Lines.{flowOf}
 use Rattle.plan.specs.declared.Plan.{Plan}
-use Rattle.fabric.specs.Flow.{noQueue, noPoint, noMultiplexer}
+use Rattle.fabric.specs.Flow.{mostDepth, noQueue, noPoint, noMultiplexer}
 use Rattle.fabric.specs.declared.flow.Queue.{Queue}
 use Rattle.fabric.specs.declared.flow.Crosspoint.{Crosspoint}
 use Rattle.crossbar.specs.declared.state.Switch.{Switch}
+
+-- 0 says that no plan waits; every other number that a hand-made state may hold says that one does
+abbrev pub hasWaiting : Switch → Bool
+hasWaiting s = not (eqb (s .waits) 0)
 
 abbrev pub queueAt : Switch → ℕ → Queue
 queueAt s k = getD (s .queues) k noQueue
@@ -33,7 +37,7 @@ headCount s i j = getD (getD (s .heads) j noMultiplexer .served) i 0
 
 -- "The queue depth Q is 1 to 64 cells."
 unfoldable pub depthInRange : ℕ → Bool
-depthInRange depth = leb 1 depth && leb depth 64
+depthInRange depth = leb 1 depth && leb depth mostDepth
 
 -- "a lent store of N × N × Q numbers"
 unfoldable pub storeFits : ℕ → ℕ → ℕ → Bool

@@ -11,10 +11,11 @@ use Rattle.refusal.specs.declared.Refusal.the-variants.{StateInvalid, StoreLeng
 use Rattle.refusal.specs.declared.Verdict.{Verdict}
 use Rattle.refusal.specs.declared.Refusal.{Refusal}
 use Rattle.refusal.specs.declared.Verdict.the-variants.{Accepted, Refused}
+use Rattle.plan.specs.Range.{mostPorts, mostFlows}
 use Rattle.plan.specs.Desk.{rowOf}
 use Rattle.multiplexer.specs.Choose.{eligibleAt}
 use Rattle.multiplexer.specs.Window.{columnOf}
-use Rattle.fabric.specs.Flow.{noMultiplexer}
+use Rattle.fabric.specs.Flow.{mostDepth, noMultiplexer}
 use Rattle.fabric.specs.declared.flow.Answer.the-variants.{Idle}
 use Rattle.multiplexer.specs.declared.Choice.{Choice}
 use Rattle.multiplexer.specs.declared.Multiplexer.{Multiplexer}
@@ -77,11 +78,11 @@ afterSlot s store =
 
 -- what an accepted step answers
 abbrev pub slotReply : Switch → List ℕ → SlotReply
-slotReply s store = record { verdict = Accepted; state = afterSlot s store; boards = slotMoves s store .ports; heads = slotSends s store .ports }
+slotReply s store = record { verdict = Accepted; state = afterSlot s store; moves = slotMoves s store .ports; sends = slotSends s store .ports }
 
 -- what a refused step answers
 abbrev pub refusedReply : Switch → Refusal → SlotReply
-refusedReply s r = record { verdict = Refused r; state = s; boards = allIdle; heads = allIdle }
+refusedReply s r = record { verdict = Refused r; state = s; moves = allIdle; sends = allIdle }
 
 unfoldable pub stepVerdict : Switch → ℕ → Verdict
 stepVerdict s len =
@@ -97,8 +98,8 @@ stepOf s store =
     record {
       verdict = v;
       state = ifAccepted v (afterSlot u store) s;
-      boards = ifAccepted v (slotMoves u store .ports) allIdle;
-      heads = ifAccepted v (slotSends u store .ports) allIdle;
+      moves = ifAccepted v (slotMoves u store .ports) allIdle;
+      sends = ifAccepted v (slotSends u store .ports) allIdle;
     }
 
 -- what `step` ensures
@@ -117,9 +118,9 @@ pub record ChosenAs (defined : List Choice) (n : ℕ) (choices : List Choice) : 
 
 -- For the code: what the slot itself asks of a state after a takeover, of the store's length and of the boards' choices.
 pub record CanRun (s : Switch) (len : ℕ) (boards : List Choice) : Type 0 where
-  pub few-ports : s .running .ports ≤ 16
+  pub few-ports : s .running .ports ≤ mostPorts
   pub some-depth : 1 ≤ s .depth
-  pub few-cells : s .depth ≤ 64
+  pub few-cells : s .depth ≤ mostDepth
   pub in-frame : s .slot < s .running .frame
   pub places : (k : ℕ) → k < s .running .ports * s .running .ports → queueAt s k .place < s .depth
   pub store : len ≡ s .running .ports * s .running .ports * s .depth
@@ -128,15 +129,15 @@ pub record CanRun (s : Switch) (len : ℕ) (boards : List Choice) : Type 0 where
 
 -- The arrays of a state have their lengths, as those of every `Switch` in the code do.
 pub record Sized (s : Switch) : Type 0 where
-  pub running : length (s .running .rates) ≡ 256
-  pub waiting : length (s .waiting .rates) ≡ 256
-  pub queues : length (s .queues) ≡ 256
-  pub points : length (s .crosspoints) ≡ 256
+  pub running : length (s .running .rates) ≡ mostFlows
+  pub waiting : length (s .waiting .rates) ≡ mostFlows
+  pub queues : length (s .queues) ≡ mostFlows
+  pub points : length (s .crosspoints) ≡ mostFlows
 
 -- "With none eligible the port idles", and in no other case: where a port of an accepted step reads idle, no flow of it is
 -- eligible. u is the state after the takeover. proofs/IdleLaws.antt has that it holds of every accepted step.
 pub record IdlesOnly (u : Switch) (r : SlotReply) : Type 0 where
-  pub boards : (i f : ℕ) → i < u .running .ports → f < u .running .ports → answerOf (r .boards) i ≡ Idle
+  pub boards : (i f : ℕ) → i < u .running .ports → f < u .running .ports → answerOf (r .moves) i ≡ Idle
       → eligibleAt (rowOf (planRates (u .running)) (u .running .ports) i) (getD (u .boards) i noMultiplexer .served) (u .running .frame) (u .slot) f ≡ false
-  pub heads : (j f : ℕ) → j < u .running .ports → f < u .running .ports → answerOf (r .heads) j ≡ Idle
+  pub heads : (j f : ℕ) → j < u .running .ports → f < u .running .ports → answerOf (r .sends) j ≡ Idle
       → eligibleAt (columnOf (planRates (u .running)) (u .running .ports) j) (getD (u .heads) j noMultiplexer .served) (u .running .frame) (u .slot) f ≡ false

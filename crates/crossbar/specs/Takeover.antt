@@ -2,10 +2,12 @@
 -- ports below N in the state are 0."
 use Prim.Native.Nat.{_*_, _≤_}
 use mathlib.Core.Path.{_≡_}
-use mathlib.Core.Bool.{Bool, true, false, cond, _&&_}
+use mathlib.Core.Bool.{Bool, true, cond, _&&_}
 use mathlib.Core.List.{[]}
 use lib.Dec.{eqb}
+use Rattle.plan.specs.Range.{mostPorts}
 use Rattle.plan.specs.declared.Plan.{Plan}
+use Rattle.crossbar.specs.State.{hasWaiting}
 use Rattle.crossbar.specs.Rates.{overlaid}
 use Rattle.crossbar.specs.Load.{withPlans}
 use Rattle.crossbar.specs.declared.state.Switch.{Switch}
@@ -19,11 +21,11 @@ abbrev pub cleared : Plan → Plan
 cleared p = record { ports = 0; frame = 0; rates = overlaid (p .rates) [] (p .ports * p .ports) }
 
 abbrev pub takesOver : Switch → Bool
-takesOver s = eqb (s .slot) 0 && s .waits
+takesOver s = eqb (s .slot) 0 && hasWaiting s
 
 unfoldable pub takeoverOf : Switch → Switch
-takeoverOf s = cond (takesOver s) (withPlans s (replaced (s .running) (s .waiting)) (cleared (s .waiting)) false) s
+takeoverOf s = cond (takesOver s) (withPlans s (replaced (s .running) (s .waiting)) (cleared (s .waiting)) 0) s
 
 -- For the code: the arrays have room for a plan that is taken over.
 pub record Takeable (s : Switch) : Type 0 where
-  pub few : takesOver s ≡ true → s .waiting .ports ≤ 16
+  pub few : takesOver s ≡ true → s .waiting .ports ≤ mostPorts

@@ -12,8 +12,8 @@ use Rattle.plan.specs.Below.{allBelow}
 use Rattle.plan.specs.Accept.{acceptOf, IsPlan}
 use Rattle.plan.specs.declared.Plan.{Plan}
 use Rattle.multiplexer.specs.declared.Multiplexer.{Multiplexer}
-use Rattle.fabric.specs.Flow.{noQueue, noPoint, noMultiplexer}
-use Rattle.crossbar.specs.State.{queueAt, pointAt, planRates, rateAt, boardCount, headCount, depthInRange}
+use Rattle.fabric.specs.Flow.{mostDepth, crosspointDepth, noQueue, noPoint, noMultiplexer}
+use Rattle.crossbar.specs.State.{hasWaiting, queueAt, pointAt, planRates, rateAt, boardCount, headCount, depthInRange}
 use Rattle.fabric.specs.declared.flow.Queue.{Queue}
 use Rattle.fabric.specs.declared.flow.Crosspoint.{Crosspoint}
 use Rattle.crossbar.specs.declared.state.Switch.{Switch}
@@ -29,7 +29,7 @@ unfoldable pub plansValid : Plan → Plan → Bool → Bool
 plansValid running waiting waits = planValid running && (not waits || (planValid waiting && samePorts running waiting))
 
 abbrev pub flowValid : ℕ → Queue → Crosspoint → Bool
-flowValid depth q x = ltb (q .place) depth && leb (q .count) depth && leb (x .count) 2
+flowValid depth q x = ltb (q .place) depth && leb (q .count) depth && leb (x .count) crosspointDepth
 
 unfoldable pub flowsValid : List Queue → List Crosspoint → ℕ → ℕ → Bool
 flowsValid queues points n depth = allBelow (λ k. flowValid depth (getD queues k noQueue) (getD points k noPoint)) (n * n)
@@ -55,7 +55,7 @@ countsValid p boards heads slot =
 unfoldable pub validOf : Switch → Bool
 validOf s =
     let n = s .running .ports in
-    plansValid (s .running) (s .waiting) (s .waits)
+    plansValid (s .running) (s .waiting) (hasWaiting s)
     && depthInRange (s .depth)
     && ltb (s .slot) (s .running .frame)
     && flowsValid (s .queues) (s .crosspoints) n (s .depth)
@@ -69,15 +69,15 @@ IsPlanOf p = IsPlan (p .ports) (p .frame) (planRates p)
 -- What number 12 asks of a state. proofs/ValidLaws.antt has that these are the valid ones, and no others.
 pub record IsValid (s : Switch) : Type 0 where
   pub running : IsPlanOf (s .running)
-  pub waiting : s .waits ≡ true → IsPlanOf (s .waiting)
-  pub same-ports : s .waits ≡ true → s .running .ports ≡ s .waiting .ports
-  pub same-frame : s .waits ≡ true → s .running .frame ≡ s .waiting .frame
+  pub waiting : hasWaiting s ≡ true → IsPlanOf (s .waiting)
+  pub same-ports : hasWaiting s ≡ true → s .running .ports ≡ s .waiting .ports
+  pub same-frame : hasWaiting s ≡ true → s .running .frame ≡ s .waiting .frame
   pub some-place : 1 ≤ s .depth
-  pub few-places : s .depth ≤ 64
+  pub few-places : s .depth ≤ mostDepth
   pub in-frame : s .slot < s .running .frame
   pub queue-place : (k : ℕ) → k < s .running .ports * s .running .ports → queueAt s k .place < s .depth
   pub queue-count : (k : ℕ) → k < s .running .ports * s .running .ports → queueAt s k .count ≤ s .depth
-  pub crosspoint-count : (k : ℕ) → k < s .running .ports * s .running .ports → pointAt s k .count ≤ 2
+  pub crosspoint-count : (k : ℕ) → k < s .running .ports * s .running .ports → pointAt s k .count ≤ crosspointDepth
   pub board-count : (i j : ℕ) → i < s .running .ports → j < s .running .ports → boardCount s i j ≤ rateAt (s .running) i j
   pub head-count : (i j : ℕ) → i < s .running .ports → j < s .running .ports → headCount s i j ≤ rateAt (s .running) i j
   pub board-zero : s .slot ≡ 0 → (i j : ℕ) → i < s .running .ports → j < s .running .ports → boardCount s i j ≡ 0

@@ -26,7 +26,7 @@ impl Switch {
         if t != self.running.frame {
             return Verdict::Refused(Refusal::PlanMismatch);
         }
-        if self.waits {
+        if self.waits != 0 {
             return Verdict::Refused(Refusal::PlanWaits);
         }
         Verdict::Accepted
@@ -51,7 +51,7 @@ impl Switch {
         };
         let mut s = self;
         s.waiting = waiting;
-        s.waits = true;
+        s.waits = 1;
         Reply {
             verdict: verdict,
             state: s,

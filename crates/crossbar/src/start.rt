@@ -12,6 +12,8 @@ use multiplexer::Multiplexer;
 use plan::Plan;
 use plan::acceptance::accept;
 use plan::no_plan;
+use plan::range::MOST_FLOWS;
+use plan::range::MOST_PORTS;
 use refusal::Refusal;
 use refusal::Verdict;
 
@@ -24,16 +26,16 @@ fn fresh_with(plan: Plan, depth: usize) -> Switch
         cells: cells,
         count: 0,
     };
-    let served = [0u16; 16];
+    let served = [0u16; MOST_PORTS];
     let port = Multiplexer { served: served };
-    let queues = [Queue { place: 0, count: 0 }; 256];
-    let crosspoints = [point; 256];
-    let boards = [port; 16];
-    let heads = [port; 16];
+    let queues = [Queue { place: 0, count: 0 }; MOST_FLOWS];
+    let crosspoints = [point; MOST_FLOWS];
+    let boards = [port; MOST_PORTS];
+    let heads = [port; MOST_PORTS];
     Switch {
         running: plan,
         waiting: no_plan(),
-        waits: false,
+        waits: 0,
         depth: depth,
         slot: 0,
         queues: queues,
@@ -71,7 +73,7 @@ pub fn start(n: usize, t: u32, rates: &[u16], depth: usize, store: &[u32]) -> Re
             state: fresh_with(no_plan(), 0),
         };
     };
-    let zeros = [0u16; 256];
+    let zeros = [0u16; MOST_FLOWS];
     let plan = Plan {
         ports: n,
         frame: t,

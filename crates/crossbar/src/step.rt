@@ -3,6 +3,7 @@ ghost use mathlib.Core.Bool.{true, cond};
 ghost use mathlib.Core.Path.{_≡_};
 ghost use Prim.Native.Nat.{_+_, _≤_};
 ghost use lib.ListN.{length};
+ghost use Rattle.plan.specs.Range.{mostPorts};
 ghost use Rattle.crossbar.specs.Step.{ruling, ChosenAs, choicesByRows, choicesByColumns, slotReply, refusedReply, CanRun, Steps};
 use crate::state::SlotReply;
 use crate::state::Switch;
@@ -18,6 +19,7 @@ use fabric::sends::send_cells;
 use multiplexer::Choice;
 use multiplexer::Multiplexer;
 use plan::Plan;
+use plan::range::MOST_PORTS;
 use refusal::Refusal;
 use refusal::Verdict;
 
@@ -37,10 +39,10 @@ fn board_choices(
     running: Plan,
     waiting: Plan,
     takeover: bool,
-    boards: [Multiplexer; 16],
+    boards: [Multiplexer; MOST_PORTS],
     slot: u32,
-) -> [Choice; 16]
-    requires { ⌜ (running .ports ≤ 16) × (takeover ≡ true → running .ports ≡ waiting .ports) ⌝ }
+) -> [Choice; MOST_PORTS]
+    requires { ⌜ (running .ports ≤ mostPorts) × (takeover ≡ true → running .ports ≡ waiting .ports) ⌝ }
     ensures { λ r. ⌜ ChosenAs (choicesByRows (ruling takeover running waiting) (running .ports) boards (running .frame) slot) (running .ports) r ⌝ }
 {
     let n = running.ports;
@@ -58,8 +60,8 @@ fn board_choices(
 }
 
 // The heads' choices by the columns of the running plan.
-fn head_choices(running: Plan, heads: [Multiplexer; 16], slot: u32) -> [Choice; 16]
-    requires { ⌜ running .ports ≤ 16 ⌝ }
+fn head_choices(running: Plan, heads: [Multiplexer; MOST_PORTS], slot: u32) -> [Choice; MOST_PORTS]
+    requires { ⌜ running .ports ≤ mostPorts ⌝ }
     ensures { λ r. ⌜ ChosenAs (choicesByColumns running heads slot) (running .ports) r ⌝ }
 {
     let n = running.ports;
@@ -75,17 +77,17 @@ impl Switch {
     {
         let idle = [Port {
             answer: Answer::Idle,
-        }; 16];
+        }; MOST_PORTS];
         SlotReply {
             verdict: Verdict::Refused(refusal),
             state: self,
-            boards: idle,
-            heads: idle,
+            moves: idle,
+            sends: idle,
         }
     }
 
     // The slot of a state after any takeover, by the boards' choices.
-    fn run_slot(self, store: &[u32], boards: [Choice; 16]) -> SlotReply
+    fn run_slot(self, store: &[u32], boards: [Choice; MOST_PORTS]) -> SlotReply
         requires { ⌜ CanRun self (length (now store)) boards ⌝ }
         ensures { λ r. ⌜ r ≡ slotReply self (now (store .entry)) ⌝ }
     {
@@ -115,8 +117,8 @@ impl Switch {
         SlotReply {
             verdict: Verdict::Accepted,
             state: next,
-            boards: board_ports,
-            heads: head_ports,
+            moves: board_ports,
+            sends: head_ports,
         }
     }
 

@@ -4,6 +4,7 @@ ghost use Rattle.crossbar.specs.Takeover.{takesOver, Takeable, takeoverO
 use crate::rates::overlay;
 use crate::state::Switch;
 use plan::Plan;
+use plan::range::MOST_FLOWS;
 
 impl Switch {
     pub fn takes_over(self) -> bool
@@ -12,7 +13,7 @@ impl Switch {
         if self.slot != 0 {
             return false;
         }
-        self.waits
+        self.waits != 0
     }
 
     // The state after part 1 of a slot.
@@ -26,7 +27,7 @@ impl Switch {
             let count = n * n;
             let old = self.running.rates;
             let taken = self.waiting.rates;
-            let zeros = [0u16; 256];
+            let zeros = [0u16; MOST_FLOWS];
             let replaced = overlay(old, &taken, count);
             let cleared = overlay(taken, &zeros, count);
             let running = Plan {
@@ -41,7 +42,7 @@ impl Switch {
             };
             s.running = running;
             s.waiting = waiting;
-            s.waits = false;
+            s.waits = 0;
         }
         s
     }

@@ -1,21 +1,23 @@
 // Whether a state keeps its own rules (number 12), and the tests of Q and of the store's length.
 ghost use mathlib.Core.Path.{_≡_};
 ghost use Prim.Native.Nat.{_*_, _<_, _≤_};
+ghost use Rattle.plan.specs.Range.{mostPorts};
 ghost use Rattle.plan.specs.Lines.{LinesIn};
+ghost use Rattle.fabric.specs.Flow.{mostDepth};
 ghost use Rattle.crossbar.specs.State.{depthInRange, storeFits};
 ghost use Rattle.crossbar.specs.Valid.{planValid, plansValid, flowValid, flowsValid, countValid, portValid, portsValid, countsValid, validOf};
 use crate::state::Switch;
+use fabric::flow::CROSSPOINT_DEPTH;
 use fabric::flow::Crosspoint;
+use fabric::flow::MOST_DEPTH;
 use fabric::flow::Queue;
 use multiplexer::Multiplexer;
 use plan::Plan;
 use plan::acceptance::accept;
+use plan::range::MOST_FLOWS;
+use plan::range::MOST_PORTS;
 use plan::range::ports_in_range;
 use refusal::Verdict;
-
-const MAX_DEPTH: usize = 64;
-
-const MAX_CELLS: u8 = 2;
 
 pub fn depth_in_range(depth: usize) -> bool
     ensures { λ r. ⌜ r ≡ depthInRange depth ⌝ }
@@ -23,12 +25,12 @@ pub fn depth_in_range(depth: usize) -> bool
     if depth < 1 {
         return false;
     }
-    depth <= MAX_DEPTH
+    depth <= MOST_DEPTH
 }
 
 // Whether a store of `len` places has N x N x Q.
 pub fn store_fits(n: usize, depth: usize, len: usize) -> bool
-    requires { ⌜ (n ≤ 16) × (depth ≤ 64) ⌝ }
+    requires { ⌜ (n ≤ mostPorts) × (depth ≤ mostDepth) ⌝ }
     ensures { λ r. ⌜ r ≡ storeFits n depth len ⌝ }
 {
     len == n * n * depth
@@ -78,11 +80,16 @@ fn flow_valid(queue: Queue, point: Crosspoint, depth: usize) -> bool
     if depth < queue.count as usize {
         return false;
     }
-    point.count <= MAX_CELLS
+    point.count <= CROSSPOINT_DEPTH
 }
 
-fn flows_valid(queues: [Queue; 256], points: [Crosspoint; 256], n: usize, depth: usize) -> bool
-    requires { ⌜ n ≤ 16 ⌝ }
+fn flows_valid(
+    queues: [Queue; MOST_FLOWS],
+    points: [Crosspoint; MOST_FLOWS],
+    n: usize,
+    depth: usize,
+) -> bool
+    requires { ⌜ n ≤ mostPorts ⌝ }
     ensures { λ r. ⌜ r ≡ flowsValid queues points n depth ⌝ }
 {
     for k in 0..n * n {
@@ -132,7 +139,7 @@ fn port_valid(
 // The counts of N boards, with (n, 1), or heads, with (1, n).
 fn ports_valid(
     rates: &[u16],
-    ports: [Multiplexer; 16],
+    ports: [Multiplexer; MOST_PORTS],
     n: usize,
     across: usize,
     along: usize,
@@ -153,11 +160,11 @@ fn ports_valid(
 // The counts of all ports, judged by the running plan.
 fn counts_valid(
     running: Plan,
-    boards: [Multiplexer; 16],
-    heads: [Multiplexer; 16],
+    boards: [Multiplexer; MOST_PORTS],
+    heads: [Multiplexer; MOST_PORTS],
     slot: u32,
 ) -> bool
-    requires { ⌜ running .ports ≤ 16 ⌝ }
+    requires { ⌜ running .ports ≤ mostPorts ⌝ }
     ensures { λ r. ⌜ r ≡ countsValid running boards heads slot ⌝ }
 {
     let n = running.ports;
@@ -176,7 +183,7 @@ impl Switch {
     {
         let running = self.running;
         let waiting = self.waiting;
-        if !plans_valid(running, waiting, self.waits) {
+        if !plans_valid(running, waiting, self.waits != 0) {
             return false;
         }
         if !depth_in_range(self.depth) {

@@ -8,10 +8,10 @@ use native.Mathlib.Numerals.{add-one}
 use native.Mathlib.Omega.{arith}
 use lib.ListN.{length, getD, set, take, length-set, length-take}
 use lib.Seq.{getD-set-same, getD-set-other, getD-take, ext-getD}
-use borrow.Author.Tests.{lt-ltb, eq-eqb}
+use Rattle.plan.specs.Range.{mostPorts, mostFlows}
 use Rattle.plan.specs.Lines.{flowOf}
-use Rattle.plan.specs.Desk.{rowOf, hasRow, deskOf}
-use Rattle.plan.proofs.RangeLaws.{ports-in}
+use Rattle.plan.specs.Desk.{rowOf, deskOf}
+use Rattle.plan.proofs.DeskLaws.{desk-row}
 use Rattle.plan.proofs.LineLaws.{flow-below, square-small, flow-one}
 use Rattle.multiplexer.specs.Choose.{chooseOf}
 use Rattle.multiplexer.specs.Window.{columnOf}
@@ -40,7 +40,7 @@ module _ (line : ℕ → List ℕ) (ports : List Multiplexer) (t slot : ℕ) whe
   unfolding choicesOf
   choices-step m f rates c e er ec = rw (add-one, ec, er, e)
 
-  choices-length : (m : ℕ) → length (after m) ≡ 16
+  choices-length : (m : ℕ) → length (after m) ≡ mostPorts
   unfolding choicesOf
   choices-length zero = refl
   choices-length (suc m) = length-set (after m) m (choice m) ∙ choices-length m
@@ -49,12 +49,12 @@ module _ (line : ℕ → List ℕ) (ports : List Multiplexer) (t slot : ℕ) whe
   unfolding choicesOf
   other m k h = getD-set-other (after m) m k (choice m) Idle h
 
-  pub choices-at : (m p : ℕ) → p < m → m ≤ 16 → choiceAt (after m) p ≡ choice p
+  pub choices-at : (m p : ℕ) → p < m → m ≤ mostPorts → choiceAt (after m) p ≡ choice p
   unfolding choicesOf
   choices-at m p l few = done (λ m k. choiceAt (after m) k) other m p l ∙ getD-set-same (after p) p (choice p) Idle (omega (arith, choices-length p))
 
   -- a port of n flows names one of them
-  pub choices-named : (n : ℕ) → n ≤ 16 → ((p : ℕ) → p < n → length (line p) ≡ n) → CanChoose n (after n)
+  pub choices-named : (n : ℕ) → n ≤ mostPorts → ((p : ℕ) → p < n → length (line p) ≡ n) → CanChoose n (after n)
   choices-named n few lines =
       record {
         few-ports = few;
@@ -67,14 +67,7 @@ unfolding choicesOf
 choices-ext line line′ ports t slot zero h = refl
 choices-ext line line′ ports t slot (suc m) h = rw (choices-ext line line′ ports t slot m (λ p l. h p (omega arith)), h m (omega arith)) refl
 
--- the desk view of a row that there is
-desk-row : (running waiting : List ℕ) (n p : ℕ) (takeover : Bool) → n ≤ 16 → p < n → length running ≡ n * n → length waiting ≡ n * n
-    → deskOf running waiting n p takeover ≡ rowOf (cond takeover waiting running) n p
-unfolding deskOf hasRow
-desk-row running waiting n p takeover few l er ew =
-    rw (ports-in n (omega arith) few, lt-ltb p n l, eq-eqb (length running) (n * n) er, eq-eqb (length waiting) (n * n) ew) refl
-
-module _ (ports : List Multiplexer) (t slot n : ℕ) (few : n ≤ 16) where
+module _ (ports : List Multiplexer) (t slot n : ℕ) (few : n ≤ mostPorts) where
   pub choices-by-rows : (running waiting : List ℕ) (takeover : Bool) → length running ≡ n * n → length waiting ≡ n * n
       → choicesOf (λ p. deskOf running waiting n p takeover) ports t slot n ≡ choicesOf (rowOf (cond takeover waiting running) n) ports t slot n
   choices-by-rows running waiting takeover er ew = choices-ext _ _ ports t slot n (λ p l. desk-row running waiting n p takeover few l er ew)
@@ -114,7 +107,7 @@ module _ (rates : List ℕ) (n : ℕ) where
   unfolding transposed
   transpose-step m f g ef eg = rw (add-one, ← ef) eg
 
-  pub transposed-length : (m : ℕ) → length (transposed rates n m) ≡ 256
+  pub transposed-length : (m : ℕ) → length (transposed rates n m) ≡ mostFlows
   unfolding transposed
   transposed-length zero = refl
   transposed-length (suc m) = row-array-length rates n m (transposed rates n m) n ∙ transposed-length m
@@ -127,7 +120,7 @@ module _ (rates : List ℕ) (n : ℕ) where
   unfolding transposed
   rows-other m k h = row-elsewhere rates n m (transposed rates n m) n k (λ i l e. h (i, l, e))
 
-  transposed-at : n ≤ 16 → (i j : ℕ) → i < n → j < n → getD (transposed rates n n) (flowOf n j i) 0 ≡ getD rates (flowOf n i j) 0
+  transposed-at : n ≤ mostPorts → (i j : ℕ) → i < n → j < n → getD (transposed rates n n) (flowOf n j i) 0 ≡ getD rates (flowOf n i j) 0
   unfolding transposed
   transposed-at few i j hi hj =
       settled (λ m k. getD (transposed rates n m) k 0) in-row rows-other n j (flowOf n j i) hj (λ q lo hq (g, l, e). omega (arith, flow-one n j i q g hi l e .0))
@@ -137,10 +130,10 @@ module _ (rates : List ℕ) (n : ℕ) where
   abbrev pub columns : List ℕ
   columns = take (n * n) (transposed rates n n)
 
-  columns-length : n ≤ 16 → length columns ≡ n * n
+  columns-length : n ≤ mostPorts → length columns ≡ n * n
   columns-length few = omega (arith, length-take (n * n) (transposed rates n n), transposed-length n, square-small n few)
 
-  columns-row : n ≤ 16 → (j : ℕ) → j < n → rowOf columns n j ≡ columnOf rates n j
+  columns-row : n ≤ mostPorts → (j : ℕ) → j < n → rowOf columns n j ≡ columnOf rates n j
   columns-row few j hj =
       ext-getD 0 (rowOf columns n j) (columnOf rates n j)
       (row-length columns n j (columns-length few) hj ∙ sym (column-length rates n j))
@@ -151,7 +144,7 @@ module _ (rates : List ℕ) (n : ℕ) where
       ∙ transposed-at few i j hi hj
       ∙ sym (column-rate rates n i j hi))
 
-  pub choices-by-columns : n ≤ 16 → (ports : List Multiplexer) (t slot : ℕ)
+  pub choices-by-columns : n ≤ mostPorts → (ports : List Multiplexer) (t slot : ℕ)
       → choicesOf (λ p. deskOf columns columns n p false) ports t slot n ≡ choicesOf (columnOf rates n) ports t slot n
   choices-by-columns few ports t slot =
       choices-ext _ _ ports t slot n

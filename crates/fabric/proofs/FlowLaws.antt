@@ -3,19 +3,20 @@ use Prim.Native.Nat.{ℕ, _+_, _*_, _<_, _≤_}
 use mathlib.Core.Path.{_≡_}
 use native.Mathlib.Nat.{mul-le-mul, add-zero, mod-eq-of-lt}
 use native.Mathlib.Omega.{arith}
+use Rattle.plan.specs.Range.{mostPorts, mostFlows}
 use Rattle.plan.specs.Lines.{flowOf}
-use Rattle.fabric.specs.Flow.{cellPlace}
+use Rattle.fabric.specs.Flow.{mostDepth, cellPlace}
 use Rattle.fabric.specs.declared.flow.Queue.{Queue}
 use Rattle.plan.proofs.LineLaws.{row-within, flow-below, square-small}
 
-pub flow-small : (n i j : ℕ) → n ≤ 16 → i < n → j < n → flowOf n i j < 256
+pub flow-small : (n i j : ℕ) → n ≤ mostPorts → i < n → j < n → flowOf n i j < mostFlows
 flow-small n i j h hi hj = omega (arith, flow-below n i j hi hj, square-small n h)
 
 -- place p of queue k is below the end of m queues
 pub cell-below : (k m depth p : ℕ) → k < m → p < depth → k * depth + p < m * depth
 cell-below k m depth p hk hp = omega (arith, row-within k m depth hk)
 
-pub store-small : (n depth : ℕ) → n ≤ 16 → depth ≤ 64 → n * n * depth ≤ 16384
+pub store-small : (n depth : ℕ) → n ≤ mostPorts → depth ≤ mostDepth → n * n * depth ≤ mostFlows * mostDepth
 store-small n depth h d = mul-le-mul (square-small n h) d
 
 -- the oldest cell stands at the queue's place

@@ -1,23 +1,25 @@
 -- The boards' services, board by board: what each one finds, and what the flows, answers and lists are after them.
 use Prim.Native.Nat.{ℕ, zero, suc, _+_, _*_, _<_, _≤_}
 use mathlib.Core.Path.{_≡_, refl, ap, sym, _∙_}
-use mathlib.Core.Bool.{Bool, true, false}
+use mathlib.Core.Bool.{Bool, true, false, or-true}
 use mathlib.Core.List.{List}
 use native.Mathlib.Numerals.{add-one}
 use native.Mathlib.Omega.{arith}
+use lib.Dec.{eqb}
 use lib.ListN.{length, getD, length-set}
 use lib.Seq.{getD-set-same, getD-set-other}
-use borrow.Author.Tests.{ne-eqb, ltb-true}
+use borrow.Author.Tests.{eqb-true, eqb-false, ne-eqb, ltb-true, lt-ltb}
+use Rattle.plan.specs.Range.{mostPorts, mostFlows}
 use Rattle.plan.specs.Lines.{flowOf}
 use Rattle.plan.specs.Below.{allBelow}
-use Rattle.plan.proofs.BelowLaws.{all-holds, all-fails}
+use Rattle.plan.proofs.BelowLaws.{all-holds, all-intro, all-fails}
 use Rattle.plan.proofs.LineLaws.{flow-below, flow-one}
 use Rattle.multiplexer.specs.declared.Choice.{Choice}
 use Rattle.multiplexer.specs.declared.Choice.the-variants.{Idle, Flow}
-use Rattle.fabric.specs.Flow.{noQueue, noPoint, cellPlace}
+use Rattle.fabric.specs.Flow.{crosspointDepth, noQueue, noPoint, cellPlace}
 use Rattle.fabric.specs.Answer.{port, answerOf}
 use Rattle.fabric.specs.Choices.{choiceAt, NamesBelow, CanChoose}
-use Rattle.fabric.specs.Moves.{moveOf, withMove, boardMoves, movesOf, roomIn, roomFor, roomForAll, CanMove, CanMoveAll}
+use Rattle.fabric.specs.Moves.{moveNone, moveCell, moveOf, withMove, boardMoves, movesOf, roomIn, roomFor, roomForAll, CanMove, CanMoveAll}
 use Rattle.fabric.specs.declared.flow.Queue.{Queue}
 use Rattle.fabric.specs.declared.flow.Crosspoint.{Crosspoint}
 use Rattle.fabric.specs.declared.flow.Port.{Port}
@@ -28,9 +30,26 @@ use Rattle.fabric.proofs.ListLaws.{getD-repeated}
 use Rattle.fabric.proofs.FlowLaws.{flow-small}
 use Rattle.fabric.proofs.TouchLaws.{untouched, settled, not-yet, done}
 
+-- what holds of a service that finds no cell, and of one that finds one, holds of a service
+pub move-case : (P : Move → Type 0) (depth j cell : ℕ) (q : Queue) (x : Crosspoint)
+    → (q .count ≡ 0 → P (moveNone j q x)) → (1 ≤ q .count → P (moveCell depth j cell q x)) → P (moveOf depth j cell q x)
+unfolding moveOf
+move-case P depth j cell q x none some = go (eqb (q .count) 0) refl
+  where
+    go : (b : Bool) → eqb (q .count) 0 ≡ b → P (moveOf depth j cell q x)
+    go true e = rw e (none (eqb-true (q .count) 0 e))
+    go false e = let ne = eqb-false (q .count) 0 e in rw e (some (omega arith))
+
+-- a service is not answered by "idle"
+pub move-serves : (depth j cell : ℕ) (q : Queue) (x : Crosspoint) → moveOf depth j cell q x .port .answer ≡ answer.Idle → ⊥
+move-serves depth j cell q x =
+    move-case (λ r. r .port .answer ≡ answer.Idle → ⊥) depth j cell q x
+    (λ _ (e : answer.Empty j ≡ answer.Idle). let z : _≡_ {A = ℕ} 0 1 = cc in omega arith)
+    (λ _ (e : answer.Moved j cell ≡ answer.Idle). let z : _≡_ {A = ℕ} 0 1 = cc in omega arith)
+
 -- a queue with a cell has room in its crosspoint
-pub room-left : (q : Queue) (x : Crosspoint) → roomIn q x ≡ true → (q .count ≡ 0 → ⊥) → x .count < 2
-room-left q x e h = ltb-true (x .count) 2 (rw (ne-eqb (q .count) 0 h) at e)
+pub room-left : (q : Queue) (x : Crosspoint) → roomIn q x ≡ true → (q .count ≡ 0 → ⊥) → x .count < crosspointDepth
+room-left q x e h = ltb-true (x .count) crosspointDepth (rw (ne-eqb (q .count) 0 h) at e)
 
 -- Whether the boards below m leave room, one board more, and all of them.
 module _ (n : ℕ) (choices : List Choice) (queues : List Queue) (points : List Crosspoint) where
@@ -55,6 +74,15 @@ module _ (n : ℕ) (choices : List Choice) (queues : List Queue) (points : List 
       → roomIn (getD queues k noQueue) (getD points k noPoint) ≡ false → roomForAll n choices queues points ≡ false
   unfolding roomForAll
   room-fails m j k l c e r = all-fails _ n m l (sym (room-of m j k c e) ∙ r)
+
+  -- the test passes where each crosspoint that is served has a place left
+  pub room-enough : ((i j : ℕ) → i < n → choiceAt choices i ≡ Flow j → getD points (flowOf n i j) noPoint .count < crosspointDepth) → roomForAll n choices queues points ≡ true
+  unfolding roomForAll roomFor
+  room-enough left = all-intro _ n (λ i hi. go i hi (choiceAt choices i) refl)
+    where
+      go : (i : ℕ) → i < n → (c : Choice) → choiceAt choices i ≡ c → roomFor n queues points i c ≡ true
+      go i hi Idle e = refl
+      go i hi (Flow j) e = rw (lt-ltb _ crosspointDepth (left i j hi e)) (or-true (eqb (getD queues (flowOf n i j) noQueue .count) 0))
 
   -- what the test says of one board
   room-at : roomForAll n choices queues points ≡ true → (i j : ℕ) → i < n → choiceAt choices i ≡ Flow j
@@ -162,7 +190,7 @@ module _ (n depth : ℕ) (store : List ℕ) (choices : List Choice) (queues : Li
   pub record MoveLengths (f : Moves) : Type 0 where
     pub queues-kept : length (f .queues) ≡ length queues
     pub points-kept : length (f .crosspoints) ≡ length points
-    pub all-ports : length (f .ports) ≡ 16
+    pub all-ports : length (f .ports) ≡ mostPorts
 
   length-step : (m : ℕ) (c : Choice) (f : Moves) → MoveLengths f → MoveLengths (boardMoves n depth store m c f)
   unfolding boardMoves
@@ -191,7 +219,7 @@ module _ (n depth : ℕ) (store : List ℕ) (choices : List Choice) (queues : Li
   unfolding movesOf
   moves-answer-past m p l =
       not-yet (λ m p. answerOf (after m .ports) p) answer-other m p l
-      ∙ ap (λ (x : Port). x .answer) (getD-repeated 16 p (port answer.Idle))
+      ∙ ap (λ (x : Port). x .answer) (getD-repeated mostPorts p (port answer.Idle))
 
   pub moves-answer-idle : (i : ℕ) → i < n → choiceAt choices i ≡ Idle → answerOf (after n .ports) i ≡ answer.Idle
   unfolding movesOf boardMoves
@@ -205,7 +233,7 @@ module _ (n depth : ℕ) (store : List ℕ) (choices : List Choice) (queues : Li
     pub flow : FlowIs (after n) (flowOf n i j) (flowMove n depth store queues points i j .queue) (flowMove n depth store queues points i j .point)
     pub answer : answerOf (after n .ports) i ≡ flowMove n depth store queues points i j .port .answer
 
-  pub moves-served : CanChoose n choices → length queues ≡ 256 → length points ≡ 256 → (i j : ℕ) → i < n → choiceAt choices i ≡ Flow j → Moved i j
+  pub moves-served : CanChoose n choices → length queues ≡ mostFlows → length points ≡ mostFlows → (i j : ℕ) → i < n → choiceAt choices i ≡ Flow j → Moved i j
   moves-served h full full′ i j l c =
       let k = flowOf n i j in
       let r = flowMove n depth store queues points i j in

@@ -1,11 +1,15 @@
 -- The heads' services, head by head: what the crosspoints, answers and lists are after them.
 use Prim.Native.Nat.{ℕ, zero, suc, _+_, _*_, _<_, _≤_}
 use mathlib.Core.Path.{_≡_, refl, ap, sym, _∙_}
+use mathlib.Core.Bool.{Bool, true, false}
 use mathlib.Core.List.{List}
 use native.Mathlib.Numerals.{add-one}
 use native.Mathlib.Omega.{arith}
+use lib.Dec.{eqb}
 use lib.ListN.{length, getD, set, length-set}
 use lib.Seq.{getD-set-same, getD-set-other}
+use borrow.Author.Tests.{eqb-true, eqb-false}
+use Rattle.plan.specs.Range.{mostPorts, mostFlows}
 use Rattle.plan.specs.Lines.{flowOf}
 use Rattle.plan.proofs.LineLaws.{flow-below, flow-one}
 use Rattle.multiplexer.specs.declared.Choice.{Choice}
@@ -13,7 +17,7 @@ use Rattle.multiplexer.specs.declared.Choice.the-variants.{Idle, Flow}
 use Rattle.fabric.specs.Flow.{noPoint}
 use Rattle.fabric.specs.Answer.{port, answerOf}
 use Rattle.fabric.specs.Choices.{choiceAt, NamesBelow, CanChoose}
-use Rattle.fabric.specs.Sends.{sendOf, headSends, sendsOf}
+use Rattle.fabric.specs.Sends.{sendNone, sendCell, sendOf, headSends, sendsOf}
 use Rattle.fabric.specs.declared.flow.Crosspoint.{Crosspoint}
 use Rattle.fabric.specs.declared.flow.Port.{Port}
 use Rattle.fabric.specs.declared.flow.Answer.the-variants as answer
@@ -22,6 +26,22 @@ use Rattle.fabric.specs.declared.sends.Sends.{Sends}
 use Rattle.fabric.proofs.ListLaws.{getD-repeated}
 use Rattle.fabric.proofs.FlowLaws.{flow-small}
 use Rattle.fabric.proofs.TouchLaws.{untouched, settled, not-yet, done}
+
+-- what holds of a service that finds no cell, and of one that finds one, holds of a service
+pub send-case : (P : Send → Type 0) (i : ℕ) (x : Crosspoint) → (x .count ≡ 0 → P (sendNone i x)) → (1 ≤ x .count → P (sendCell i x)) → P (sendOf i x)
+unfolding sendOf
+send-case P i x none some = go (eqb (x .count) 0) refl
+  where
+    go : (b : Bool) → eqb (x .count) 0 ≡ b → P (sendOf i x)
+    go true e = rw e (none (eqb-true (x .count) 0 e))
+    go false e = let ne = eqb-false (x .count) 0 e in rw e (some (omega arith))
+
+-- a service is not answered by "idle"
+pub send-serves : (i : ℕ) (x : Crosspoint) → sendOf i x .port .answer ≡ answer.Idle → ⊥
+send-serves i x =
+    send-case (λ r. r .port .answer ≡ answer.Idle → ⊥) i x
+    (λ _ (e : answer.Empty i ≡ answer.Idle). let z : _≡_ {A = ℕ} 0 1 = cc in omega arith)
+    (λ _ (e : answer.Moved i (getD (x .cells) 0 0) ≡ answer.Idle). let z : _≡_ {A = ℕ} 0 1 = cc in omega arith)
 
 -- flow (i, j)'s send from the crosspoints given
 abbrev pub flowSend : ℕ → List Crosspoint → ℕ → ℕ → Send
@@ -76,7 +96,7 @@ module _ (n : ℕ) (choices : List Choice) (points : List Crosspoint) where
 
   pub record SendLengths (f : Sends) : Type 0 where
     pub points-kept : length (f .crosspoints) ≡ length points
-    pub all-ports : length (f .ports) ≡ 16
+    pub all-ports : length (f .ports) ≡ mostPorts
 
   length-step : (m : ℕ) (c : Choice) (f : Sends) → SendLengths f → SendLengths (headSends n m c f)
   unfolding headSends
@@ -101,7 +121,7 @@ module _ (n : ℕ) (choices : List Choice) (points : List Crosspoint) where
   unfolding sendsOf
   sends-answer-past m p l =
       not-yet (λ m p. answerOf (after m .ports) p) answer-other m p l
-      ∙ ap (λ (x : Port). x .answer) (getD-repeated 16 p (port answer.Idle))
+      ∙ ap (λ (x : Port). x .answer) (getD-repeated mostPorts p (port answer.Idle))
 
   pub sends-answer-idle : (j : ℕ) → j < n → choiceAt choices j ≡ Idle → answerOf (after n .ports) j ≡ answer.Idle
   unfolding sendsOf headSends
@@ -112,7 +132,7 @@ module _ (n : ℕ) (choices : List Choice) (points : List Crosspoint) where
     pub point : getD (after n .crosspoints) (flowOf n i j) noPoint ≡ flowSend n points i j .point
     pub answer : answerOf (after n .ports) j ≡ flowSend n points i j .port .answer
 
-  pub sends-served : CanChoose n choices → length points ≡ 256 → (i j : ℕ) → j < n → choiceAt choices j ≡ Flow i → Sent i j
+  pub sends-served : CanChoose n choices → length points ≡ mostFlows → (i j : ℕ) → j < n → choiceAt choices j ≡ Flow i → Sent i j
   sends-served h full i j l c =
       let k = flowOf n i j in
       let r = flowSend n points i j in

@@ -5,6 +5,7 @@ use mathlib.Core.Bool.{Bool, false, cond}
 use mathlib.Core.List.{List, [], _∷_}
 use lib.Dec.{eqb}
 use lib.ListN.{getD, replicate}
+use Rattle.plan.specs.Range.{mostPorts}
 use Rattle.fabric.specs.declared.flow.Answer.{Answer}
 use Rattle.fabric.specs.declared.flow.Answer.the-variants.{Idle, Empty, Moved}
 use Rattle.fabric.specs.declared.flow.Port.{Port}
@@ -35,4 +36,4 @@ abbrev pub answerOf : List Port → ℕ → Answer
 answerOf ports p = getD ports p (port Idle) .answer
 
 abbrev pub allIdle : List Port
-allIdle = replicate 16 (port Idle)
+allIdle = replicate mostPorts (port Idle)

@@ -5,6 +5,14 @@ use Rattle.multiplexer.specs.declared.Multiplexer.{Multiplexer}
 use Rattle.fabric.specs.declared.flow.Queue.{Queue}
 use Rattle.fabric.specs.declared.flow.Crosspoint.{Crosspoint}
 
+-- "The queue depth Q is 1 to 64 cells." Only this file and src/flow.rt have this limit and the next.
+abbrev pub mostDepth : ℕ
+mostDepth = 64
+
+-- "Each crosspoint holds two cells"
+abbrev pub crosspointDepth : ℕ
+crosspointDepth = 2
+
 -- what a place past the end of a list reads as
 abbrev pub noQueue : Queue
 noQueue = record { place = 0; count = 0 }

@@ -10,7 +10,7 @@ use Rattle.plan.specs.Below.{allBelow}
 use Rattle.plan.specs.Lines.{flowOf}
 use Rattle.multiplexer.specs.declared.Choice.{Choice}
 use Rattle.multiplexer.specs.declared.Choice.the-variants.{Idle, Flow}
-use Rattle.fabric.specs.Flow.{noQueue, noPoint, cellPlace}
+use Rattle.fabric.specs.Flow.{mostDepth, crosspointDepth, noQueue, noPoint, cellPlace}
 use Rattle.fabric.specs.Answer.{port, allIdle}
 use Rattle.fabric.specs.Choices.{choiceAt, CanChoose}
 use Rattle.fabric.specs.declared.flow.Answer.the-variants.{Empty, Moved}
@@ -27,12 +27,17 @@ shorter depth q = record { place = (q .place + 1) % depth; count = q .count - 1 
 abbrev pub filled : ℕ → Crosspoint → Crosspoint
 filled cell x = record { cells = set (x .cells) (x .count) cell; count = x .count + 1 }
 
+-- a board's service of head j that finds no cell in its queue
+abbrev pub moveNone : ℕ → Queue → Crosspoint → Move
+moveNone j q x = record { queue = q; point = x; port = port (Empty j) }
+
+-- one that finds this cell
+abbrev pub moveCell : ℕ → ℕ → ℕ → Queue → Crosspoint → Move
+moveCell depth j cell q x = record { queue = shorter depth q; point = filled cell x; port = port (Moved j cell) }
+
 -- what a board's service of head j makes of its queue, whose oldest cell is `cell`, and of its crosspoint
 unfoldable pub moveOf : ℕ → ℕ → ℕ → Queue → Crosspoint → Move
-moveOf depth j cell q x =
-    cond (eqb (q .count) 0)
-    (record { queue = q; point = x; port = port (Empty j) })
-    (record { queue = shorter depth q; point = filled cell x; port = port (Moved j cell) })
+moveOf depth j cell q x = cond (eqb (q .count) 0) (moveNone j q x) (moveCell depth j cell q x)
 
 -- the move of flow k in the queues, crosspoints and answers so far
 abbrev pub moveAt : ℕ → List ℕ → ℕ → ℕ → Moves → Move
@@ -57,7 +62,7 @@ movesOf n depth store choices queues points (suc m) =
 
 -- whether a service leaves its crosspoint at two cells or fewer
 abbrev pub roomIn : Queue → Crosspoint → Bool
-roomIn q x = eqb (q .count) 0 || ltb (x .count) 2
+roomIn q x = eqb (q .count) 0 || ltb (x .count) crosspointDepth
 
 -- the same of board i's service
 unfoldable pub roomFor : ℕ → List Queue → List Crosspoint → ℕ → Choice → Bool
@@ -72,7 +77,7 @@ roomForAll n choices queues points = allBelow (λ i. roomFor n queues points i (
 -- For the code: what it asks of one move
 pub record CanMove (depth : ℕ) (q : Queue) (x : Crosspoint) : Type 0 where
   pub some-depth : 1 ≤ depth
-  pub few-cells : depth ≤ 64
+  pub few-cells : depth ≤ mostDepth
   pub place : q .place < depth
   pub room : roomIn q x ≡ true
 
@@ -80,7 +85,7 @@ pub record CanMove (depth : ℕ) (q : Queue) (x : Crosspoint) : Type 0 where
 pub record CanMoveAll (n depth len : ℕ) (choices : List Choice) (queues : List Queue) (points : List Crosspoint) : Type 0 where
   pub choosing : CanChoose n choices
   pub some-depth : 1 ≤ depth
-  pub few-cells : depth ≤ 64
+  pub few-cells : depth ≤ mostDepth
   pub fits : len ≡ n * n * depth
   pub room : roomForAll n choices queues points ≡ true
   pub places : (k : ℕ) → k < n * n → getD queues k noQueue .place < depth

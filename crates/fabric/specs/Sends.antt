@@ -24,12 +24,21 @@ movedUp x =
     (set (set (x .cells) 0 (getD (x .cells) 1 0)) 1 0)
     (set (x .cells) 0 0)
 
+-- a crosspoint without its oldest cell
+abbrev pub withoutOldest : Crosspoint → Crosspoint
+withoutOldest x = record { cells = movedUp x; count = x .count - 1 }
+
+-- a head's service of board i that finds no cell in its crosspoint
+abbrev pub sendNone : ℕ → Crosspoint → Send
+sendNone i x = record { point = x; port = port (Empty i) }
+
+-- one that finds a cell
+abbrev pub sendCell : ℕ → Crosspoint → Send
+sendCell i x = record { point = withoutOldest x; port = port (Moved i (getD (x .cells) 0 0)) }
+
 -- what a head's service of board i makes of its crosspoint
 unfoldable pub sendOf : ℕ → Crosspoint → Send
-sendOf i x =
-    cond (eqb (x .count) 0)
-    (record { point = x; port = port (Empty i) })
-    (record { point = record { cells = movedUp x; count = x .count - 1 }; port = port (Moved i (getD (x .cells) 0 0)) })
+sendOf i x = cond (eqb (x .count) 0) (sendNone i x) (sendCell i x)
 
 -- head j's part of the slot
 unfoldable pub headSends : ℕ → ℕ → Choice → Sends → Sends

@@ -1,9 +1,11 @@
 // The service counts after a slot.
 ghost use mathlib.Core.Path.{_≡_};
 ghost use Prim.Native.Nat.{_≤_};
+ghost use Rattle.plan.specs.Range.{mostPorts};
 ghost use Rattle.fabric.specs.Counts.{portAfter, countsOf};
 use multiplexer::Choice;
 use multiplexer::Multiplexer;
+use plan::range::MOST_PORTS;
 
 // One port of n flows after a slot, which ends its frame or does not.
 fn port_after(port: Multiplexer, choice: Choice, ends: bool, n: usize) -> Multiplexer
@@ -18,12 +20,12 @@ fn port_after(port: Multiplexer, choice: Choice, ends: bool, n: usize) -> Multip
 
 // The ports below n after a slot; the others stay.
 pub fn count_all(
-    mut ports: [Multiplexer; 16],
-    choices: [Choice; 16],
+    mut ports: [Multiplexer; MOST_PORTS],
+    choices: [Choice; MOST_PORTS],
     ends: bool,
     n: usize,
-) -> [Multiplexer; 16]
-    requires { ⌜ n ≤ 16 ⌝ }
+) -> [Multiplexer; MOST_PORTS]
+    requires { ⌜ n ≤ mostPorts ⌝ }
     ensures { λ r. ⌜ r ≡ countsOf n ends choices ports n ⌝ }
 {
     for p in 0..n {

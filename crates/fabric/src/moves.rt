@@ -4,12 +4,15 @@ ghost use lib.ListN.{length};
 ghost use Rattle.fabric.specs.Choices.{CanChoose};
 ghost use Rattle.fabric.specs.Moves.{moveOf, movesOf, roomIn, roomForAll, CanMove, CanMoveAll};
 use crate::flow::Answer;
+use crate::flow::CROSSPOINT_DEPTH;
 use crate::flow::Crosspoint;
 use crate::flow::Port;
 use crate::flow::Queue;
 use crate::places::flow_place;
 use crate::places::oldest_place;
 use multiplexer::Choice;
+use plan::range::MOST_FLOWS;
+use plan::range::MOST_PORTS;
 
 // What one board's service makes of its flow.
 pub struct Move {
@@ -21,9 +24,9 @@ pub struct Move {
 // What the boards' services change. With the ports between them, the compiler keeps the two long arrays apart and copies
 // neither once more on the way to the sends.
 pub struct Moves {
-    pub queues: [Queue; 256],
-    pub ports: [Port; 16],
-    pub crosspoints: [Crosspoint; 256],
+    pub queues: [Queue; MOST_FLOWS],
+    pub ports: [Port; MOST_PORTS],
+    pub crosspoints: [Crosspoint; MOST_FLOWS],
 }
 
 // Whether a service leaves the crosspoint at two cells or fewer.
@@ -33,14 +36,14 @@ fn has_room(queue: Queue, point: Crosspoint) -> bool
     if queue.count == 0 {
         return true;
     }
-    point.count < 2
+    point.count < CROSSPOINT_DEPTH
 }
 
 // Whether no board's service puts a third cell in a crosspoint.
 pub fn room_for_all(
-    queues: [Queue; 256],
-    crosspoints: [Crosspoint; 256],
-    choices: [Choice; 16],
+    queues: [Queue; MOST_FLOWS],
+    crosspoints: [Crosspoint; MOST_FLOWS],
+    choices: [Choice; MOST_PORTS],
     n: usize,
 ) -> bool
     requires { ⌜ CanChoose n choices ⌝ }
@@ -96,10 +99,10 @@ fn move_cell(queue: Queue, point: Crosspoint, cell: u32, j: usize, depth: usize)
 
 // The services of all boards.
 pub fn move_cells(
-    mut queues: [Queue; 256],
-    mut crosspoints: [Crosspoint; 256],
+    mut queues: [Queue; MOST_FLOWS],
+    mut crosspoints: [Crosspoint; MOST_FLOWS],
     store: &[u32],
-    choices: [Choice; 16],
+    choices: [Choice; MOST_PORTS],
     n: usize,
     depth: usize,
 ) -> Moves
@@ -108,7 +111,7 @@ pub fn move_cells(
 {
     let mut ports = [Port {
         answer: Answer::Idle,
-    }; 16];
+    }; MOST_PORTS];
     for i in 0..n {
         let choice = choices[i];
         let Choice::Flow(j) = choice else {

@@ -7,6 +7,8 @@ use crate::flow::Crosspoint;
 use crate::flow::Port;
 use crate::places::flow_place;
 use multiplexer::Choice;
+use plan::range::MOST_FLOWS;
+use plan::range::MOST_PORTS;
 
 // What one head's service makes of its flow.
 pub struct Send {
@@ -16,8 +18,8 @@ pub struct Send {
 
 // What the heads' services change.
 pub struct Sends {
-    pub crosspoints: [Crosspoint; 256],
-    pub ports: [Port; 16],
+    pub crosspoints: [Crosspoint; MOST_FLOWS],
+    pub ports: [Port; MOST_PORTS],
 }
 
 // The cells after the oldest one left.
@@ -61,13 +63,17 @@ fn send_cell(point: Crosspoint, i: usize) -> Send
 }
 
 // The services of all heads.
-pub fn send_cells(mut crosspoints: [Crosspoint; 256], choices: [Choice; 16], n: usize) -> Sends
+pub fn send_cells(
+    mut crosspoints: [Crosspoint; MOST_FLOWS],
+    choices: [Choice; MOST_PORTS],
+    n: usize,
+) -> Sends
     requires { ⌜ CanChoose n choices ⌝ }
     ensures { λ r. ⌜ r ≡ sendsOf n choices crosspoints n ⌝ }
 {
     let mut ports = [Port {
         answer: Answer::Idle,
-    }; 16];
+    }; MOST_PORTS];
     for j in 0..n {
         let choice = choices[j];
         let Choice::Flow(i) = choice else {

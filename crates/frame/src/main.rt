@@ -33,8 +33,8 @@ fn print_slot(slot: u32, done: SlotReply, n: usize)
     requires { ⌜ n ≤ 16 ⌝ }
 {
     let mut line = [0u8; LINE];
-    let boards = done.boards;
-    let heads = done.heads;
+    let boards = done.moves;
+    let heads = done.sends;
     let len = slot_line(&mut line, slot, boards, heads, n);
     print(line, len);
 }

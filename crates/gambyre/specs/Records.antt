@@ -6,6 +6,7 @@ use mathlib.Core.List.{List}
 use lib.Dec.{eqb}
 use lib.ListN.{set, replicate}
 use Rattle.refusal.specs.Number.{verdictNumberOf}
+use Rattle.plan.specs.Range.{mostPorts}
 use Rattle.planfile.specs.declared.Reading.{Reading}
 use Rattle.multiplexer.specs.declared.Choice.{Choice}
 use Rattle.multiplexer.specs.declared.Choice.the-variants.{Idle, Flow}
@@ -39,11 +40,11 @@ answerRecord a = record { kind = kindOf a; other = otherOf a; cell = cellOf a }
 
 -- the records of the ports below m; those from m up are idle
 unfoldable pub recordsBelow : List Port → ℕ → List PortRecord
-recordsBelow ports zero = replicate 16 (answerRecord answer.Idle)
+recordsBelow ports zero = replicate mostPorts (answerRecord answer.Idle)
 recordsBelow ports (suc m) = set (recordsBelow ports m) m (answerRecord (answerOf ports m))
 
 abbrev pub portRecords : List Port → List PortRecord
-portRecords ports = recordsBelow ports 16
+portRecords ports = recordsBelow ports mostPorts
 
 -- "With none eligible the port idles": the number of each case of a choice
 abbrev pub choiceKindOf : Choice → ℕ
@@ -70,8 +71,8 @@ slotRecord r =
     record {
       verdict = verdictNumberOf (r .verdict);
       state = r .state;
-      boards = portRecords (r .boards);
-      heads = portRecords (r .heads);
+      moves = portRecords (r .moves);
+      sends = portRecords (r .sends);
     }
 
 abbrev pub readingRecord : Reading → ReadingRecord

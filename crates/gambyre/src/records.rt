@@ -8,6 +8,7 @@ use fabric::flow::Answer;
 use fabric::flow::Port;
 use multiplexer::Choice;
 use plan::Plan;
+use plan::range::MOST_PORTS;
 use planfile::Reading;
 
 // The kinds of a port's answer.
@@ -47,8 +48,8 @@ pub struct ReplyRecord {
 pub struct SlotRecord {
     pub verdict: u8,
     pub state: Switch,
-    pub boards: [PortRecord; 16],
-    pub heads: [PortRecord; 16],
+    pub moves: [PortRecord; MOST_PORTS],
+    pub sends: [PortRecord; MOST_PORTS],
 }
 
 #[repr(C)]
@@ -80,15 +81,15 @@ fn port_record(port: Port) -> PortRecord
     }
 }
 
-fn port_records(ports: [Port; 16]) -> [PortRecord; 16]
+fn port_records(ports: [Port; MOST_PORTS]) -> [PortRecord; MOST_PORTS]
     ensures { λ r. ⌜ r ≡ portRecords ports ⌝ }
 {
     let mut records = [PortRecord {
         kind: IDLE,
         other: 0,
         cell: 0,
-    }; 16];
-    for p in 0..16 {
+    }; MOST_PORTS];
+    for p in 0..MOST_PORTS {
         let port = ports[p];
         let record = port_record(port);
         records[p] = record;
@@ -134,13 +135,13 @@ pub fn slot_record(reply: SlotReply) -> SlotRecord
 {
     let verdict = reply.verdict;
     let state = reply.state;
-    let boards = reply.boards;
-    let heads = reply.heads;
+    let moves = reply.moves;
+    let sends = reply.sends;
     SlotRecord {
         verdict: verdict.number(),
         state,
-        boards: port_records(boards),
-        heads: port_records(heads),
+        moves: port_records(moves),
+        sends: port_records(sends),
     }
 }
 

@@ -2,13 +2,13 @@
 ghost use mathlib.Core.Path.{_≡_};
 ghost use Prim.Native.Nat.{_<_, _≤_, min};
 ghost use lib.ListN.{length};
+ghost use Rattle.plan.specs.Range.{mostPorts};
 ghost use Rattle.multiplexer.specs.Choose.{chooseOf};
 ghost use Rattle.multiplexer.specs.Count.{countOf, endFrameOf};
 ghost use Rattle.multiplexer.specs.Candidate.{noDeadline, never, Due, Dues, orFlow};
+use plan::range::MOST_PORTS;
 
-const MAX_FLOWS: usize = 16;
-
-const MAX_COUNT: u16 = 65535;
+const MOST_COUNT: u16 = 65535;
 
 // Above every deadline, and small enough that its product with a rate fits 64 bits.
 const NO_DEADLINE: u64 = 281474976710656;
@@ -27,7 +27,7 @@ pub enum Choice {
 // How often each flow of the port was served in this frame.
 #[repr(C)]
 pub struct Multiplexer {
-    pub served: [u16; 16],
+    pub served: [u16; MOST_PORTS],
 }
 
 // The choice among the flows looked at so far, and its deadline.
@@ -38,9 +38,9 @@ struct Candidate {
 
 // How many of n rates count.
 fn flows(n: usize) -> usize
-    ensures { λ r. ⌜ r ≡ min n 16 ⌝ }
+    ensures { λ r. ⌜ r ≡ min n mostPorts ⌝ }
 {
-    if n < MAX_FLOWS { n } else { MAX_FLOWS }
+    if n < MOST_PORTS { n } else { MOST_PORTS }
 }
 
 // The flow's deadline is below d exactly if this number is at most d * rate. A flow that is not eligible has NEVER.
@@ -60,11 +60,17 @@ fn due(rate: u16, served: u16, frame: u32, slot: u32) -> u64
 
 // The same of each flow below n. They are all made before the choice, so that no branch depends on which flows are
 // eligible: a processor can't foresee that.
-fn dues(rates: &[u16], served: [u16; 16], n: usize, frame: u32, slot: u32) -> [u64; 16]
-    requires { ⌜ (n ≤ 16) × (n ≤ length (now rates)) ⌝ }
+fn dues(
+    rates: &[u16],
+    served: [u16; MOST_PORTS],
+    n: usize,
+    frame: u32,
+    slot: u32,
+) -> [u64; MOST_PORTS]
+    requires { ⌜ (n ≤ mostPorts) × (n ≤ length (now rates)) ⌝ }
     ensures { λ r. ⌜ Dues (now (rates .entry)) served frame slot n r ⌝ }
 {
-    let mut dues = [NEVER; 16];
+    let mut dues = [NEVER; MOST_PORTS];
     for f in 0..n {
         dues[f] = due(rates[f], served[f], frame, slot);
     }
@@ -113,12 +119,12 @@ impl Multiplexer {
         let Choice::Flow(f) = choice else {
             return self;
         };
-        if MAX_FLOWS <= f {
+        if MOST_PORTS <= f {
             return self;
         }
         let mut served = self.served;
         let k = served[f];
-        if MAX_COUNT <= k {
+        if MOST_COUNT <= k {
             return self;
         }
         served[f] = k + 1;

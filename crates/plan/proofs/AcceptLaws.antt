@@ -1,12 +1,18 @@
 -- What is known of an accepted plan, and when a plan is accepted.
 use Prim.Native.Nat.{ℕ, _*_, _<_, _≤_}
 use mathlib.Core.Path.{_≡_, ap}
-use mathlib.Core.Bool.{true, not}
+use mathlib.Core.Bool.{Bool, true, false, not}
 use mathlib.Core.List.{List}
+use native.Mathlib.Omega.{arith}
 use lib.Dec.{leb}
 use lib.ListN.{length}
 use borrow.Author.Tests.{leb-true, le-leb, eqb-true, eq-eqb, not-false}
-use Rattle.refusal.specs.declared.Verdict.the-variants.{Accepted}
+use Rattle.refusal.specs.Chain.{refuseIf}
+use Rattle.refusal.specs.Number.{numberOf, verdictNumberOf}
+use Rattle.refusal.specs.declared.Refusal.the-variants.{PortsOutOfRange, FrameOutOfRange, ListLength, RowAboveFrame, ColumnAboveFrame}
+use Rattle.refusal.specs.declared.Refusal.{Refusal}
+use Rattle.refusal.specs.declared.Verdict.{Verdict}
+use Rattle.refusal.specs.declared.Verdict.the-variants.{Accepted, Refused}
 use Rattle.refusal.proofs.ChainLaws.{refuse-passed}
 use Rattle.plan.specs.Lines.{rowSum, columnSum, lineSum, isSquare}
 use Rattle.plan.specs.Range.{portsInRange, frameInRange}
@@ -57,3 +63,32 @@ accepts n t rates p =
       within-intro (rowSum rates n) n t (p .rows),
       within-intro (columnSum rates n) n t (p .columns),
     )
+
+-- N is looked at first
+pub ports-decide : (n t : ℕ) (rates : List ℕ) → portsInRange n ≡ false → acceptOf n t rates ≡ Refused PortsOutOfRange
+unfolding acceptOf
+ports-decide n t rates e = simp e
+
+-- where N, T and the length are right, the rows decide, then the columns
+pub sums-decide : (n t : ℕ) (rates : List ℕ) → portsInRange n ≡ true → frameInRange t ≡ true → length rates ≡ n * n
+    → acceptOf n t rates ≡ refuseIf (not (withinFrame (rowSum rates n) n t)) RowAboveFrame (refuseIf (not (withinFrame (columnSum rates n) n t)) ColumnAboveFrame Accepted)
+unfolding acceptOf
+sums-decide n t rates hn ht hl = simp (hn, ht, eq-eqb (length rates) (n * n) hl)
+
+-- a verdict whose number is within those of the plan
+abbrev OfPlan : Verdict → Type 0
+OfPlan v = verdictNumberOf v ≤ numberOf ColumnAboveFrame
+
+refuse-of-plan : (b : Bool) (r : Refusal) (rest : Verdict) → OfPlan (Refused r) → OfPlan rest → OfPlan (refuseIf b r rest)
+refuse-of-plan true r rest here there = here
+refuse-of-plan false r rest here there = there
+
+-- a plan is refused with none of the numbers that come after the column sum's
+pub accept-number : (n t : ℕ) (rates : List ℕ) → OfPlan (acceptOf n t rates)
+unfolding acceptOf
+accept-number n t rates =
+    refuse-of-plan (not (portsInRange n)) PortsOutOfRange _ (omega arith)
+    (refuse-of-plan (not (frameInRange t)) FrameOutOfRange _ (omega arith)
+    (refuse-of-plan (not (isSquare n rates)) ListLength _ (omega arith)
+    (refuse-of-plan (not (withinFrame (rowSum rates n) n t)) RowAboveFrame _ (omega arith)
+    (refuse-of-plan (not (withinFrame (columnSum rates n) n t)) ColumnAboveFrame _ (omega arith) (omega arith)))))

@@ -1,16 +1,19 @@
--- What the desk view's test says.
+-- What the desk view's test says, and the view of a row that there is.
 use Prim.Native.Nat.{ℕ, _*_, _<_, _≤_}
-use mathlib.Core.Path.{_≡_}
-use mathlib.Core.Bool.{true, _&&_}
+use mathlib.Core.Path.{_≡_, refl}
+use mathlib.Core.Bool.{Bool, true, cond, _&&_}
+use mathlib.Core.List.{List}
+use native.Mathlib.Omega.{arith}
 use lib.Dec.{ltb, eqb}
-use borrow.Author.Tests.{ltb-true, eqb-true}
-use Rattle.plan.specs.Range.{portsInRange}
-use Rattle.plan.specs.Desk.{hasRow}
+use lib.ListN.{length}
+use borrow.Author.Tests.{ltb-true, eqb-true, lt-ltb, eq-eqb}
+use Rattle.plan.specs.Range.{mostPorts, portsInRange}
+use Rattle.plan.specs.Desk.{rowOf, hasRow, deskOf}
 use Rattle.plan.proofs.BelowLaws.{and-true}
-use Rattle.plan.proofs.RangeLaws.{ports-range}
+use Rattle.plan.proofs.RangeLaws.{ports-range, ports-in}
 
 pub record HasRow (n i running waiting : ℕ) : Type 0 where
-  pub few : n ≤ 16
+  pub few : n ≤ mostPorts
   pub below : i < n
   pub running-square : running ≡ n * n
   pub waiting-square : waiting ≡ n * n
@@ -27,3 +30,9 @@ has-row n i running waiting e =
       running-square = eqb-true running (n * n) (third .1);
       waiting-square = eqb-true waiting (n * n) (last .1);
     }
+
+pub desk-row : (running waiting : List ℕ) (n i : ℕ) (takeover : Bool) → n ≤ mostPorts → i < n → length running ≡ n * n → length waiting ≡ n * n
+    → deskOf running waiting n i takeover ≡ rowOf (cond takeover waiting running) n i
+unfolding deskOf hasRow
+desk-row running waiting n i takeover few l er ew =
+    rw (ports-in n (omega arith) few, lt-ltb i n l, eq-eqb (length running) (n * n) er, eq-eqb (length waiting) (n * n) ew) refl

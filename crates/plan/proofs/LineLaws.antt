@@ -5,6 +5,7 @@ use mathlib.Core.List.{List}
 use native.Mathlib.Nat.{add-zero, mul-le-mul-right, mul-le-mul, suc-mul, mul-add-div-right, div-eq-of-lt, mul-add-mod-self-right, mod-eq-of-lt}
 use native.Mathlib.Omega.{arith}
 use lib.ListN.{length, getD}
+use Rattle.plan.specs.Range.{mostPorts, mostFlows}
 use Rattle.plan.specs.Lines.{flowOf, rowSum, columnSum, lineSum, LinesIn}
 use Rattle.plan.proofs.BelowLaws.{sum-ext}
 
@@ -28,13 +29,13 @@ flow-one n i j p q hj hq e = (
   sym (flow-column n i j hj) ∙ ap (λ (k : ℕ). k % n) e ∙ flow-column n p q hq,
 )
 
-pub square-small : (n : ℕ) → n ≤ 16 → n * n ≤ 256
+pub square-small : (n : ℕ) → n ≤ mostPorts → n * n ≤ mostFlows
 square-small n h = mul-le-mul h h
 
-pub rows-in : (list : List ℕ) (n : ℕ) → n ≤ 16 → length list ≡ n * n → LinesIn list n n 1
+pub rows-in : (list : List ℕ) (n : ℕ) → n ≤ mostPorts → length list ≡ n * n → LinesIn list n n 1
 rows-in list n h e = record { few = h; inside = λ k m hk hm. omega (arith, flow-below n k m hk hm) }
 
-pub columns-in : (list : List ℕ) (n : ℕ) → n ≤ 16 → length list ≡ n * n → LinesIn list n 1 n
+pub columns-in : (list : List ℕ) (n : ℕ) → n ≤ mostPorts → length list ≡ n * n → LinesIn list n 1 n
 columns-in list n h e = record { few = h; inside = λ k m hk hm. omega (arith, flow-below n m k hm hk) }
 
 pub row-line : (list : List ℕ) (n k : ℕ) → lineSum list n n 1 k ≡ rowSum list n k

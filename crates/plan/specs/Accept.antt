@@ -12,7 +12,7 @@ use Rattle.refusal.specs.declared.Verdict.{Verdict}
 use Rattle.refusal.specs.declared.Verdict.the-variants.{Accepted}
 use Rattle.plan.specs.Below.{allBelow}
 use Rattle.plan.specs.Lines.{rowSum, columnSum, isSquare}
-use Rattle.plan.specs.Range.{portsInRange, frameInRange}
+use Rattle.plan.specs.Range.{mostPorts, mostSlots, portsInRange, frameInRange}
 
 -- none of the n sums exceeds t
 abbrev pub withinFrame : (ℕ → ℕ) → ℕ → ℕ → Bool
@@ -30,9 +30,9 @@ acceptOf n t rates =
 -- What is known of an accepted plan. proofs/AcceptLaws.antt has that these are the accepted ones, and no others.
 pub record IsPlan (n t : ℕ) (rates : List ℕ) : Type 0 where
   pub some-port : 1 ≤ n
-  pub few-ports : n ≤ 16
+  pub few-ports : n ≤ mostPorts
   pub some-slot : 1 ≤ t
-  pub few-slots : t ≤ 4096
+  pub few-slots : t ≤ mostSlots
   pub square : length rates ≡ n * n
   pub rows : (i : ℕ) → i < n → rowSum rates n i ≤ t
   pub columns : (j : ℕ) → j < n → columnSum rates n j ≤ t

@@ -4,6 +4,7 @@ use mathlib.Core.Bool.{Bool}
 use mathlib.Core.List.{List}
 use lib.ListN.{length, getD}
 use lib.Dec.{eqb}
+use Rattle.plan.specs.Range.{mostPorts}
 use Rattle.plan.specs.Below.{sumBelow}
 
 -- the number of the flow (i, j): where its rate stands in the list
@@ -27,5 +28,5 @@ lineSum list n across along k = sumBelow (λ m. getD list (k * across + m * alon
 
 -- what the sums of lines ask of their list: no more lines than ports, and each number within the list
 pub record LinesIn (list : List ℕ) (n across along : ℕ) : Type 0 where
-  pub few : n ≤ 16
+  pub few : n ≤ mostPorts
   pub inside : (k m : ℕ) → k < n → m < n → k * across + m * along < length list

@@ -1,6 +1,7 @@
 // Rate plans: which ones are accepted, and the row of one input.
 ghost use mathlib.Core.Path.{_≡_};
 ghost use Rattle.plan.specs.NoPlan.{noPlan};
+use crate::range::MOST_FLOWS;
 
 pub mod acceptance;
 pub mod desk;
@@ -12,14 +13,14 @@ pub mod range;
 pub struct Plan {
     pub ports: usize,
     pub frame: u32,
-    pub rates: [u16; 256],
+    pub rates: [u16; MOST_FLOWS],
 }
 
 // What stands in a refusal for a plan: all numbers are 0.
 pub fn no_plan() -> Plan
     ensures { λ r. ⌜ r ≡ noPlan ⌝ }
 {
-    let rates = [0u16; 256];
+    let rates = [0u16; MOST_FLOWS];
     Plan {
         ports: 0,
         frame: 0,

@@ -1,12 +1,15 @@
-// The limits of N and T, and the length of a list for N ports.
+// The limits of N and T, which only this file and specs/Range.antt have, and the length of a list for N ports.
 ghost use mathlib.Core.Path.{_≡_};
 ghost use Prim.Native.Nat.{_*_};
 ghost use lib.Dec.{eqb};
 ghost use Rattle.plan.specs.Range.{portsInRange, frameInRange};
 
-const MAX_PORTS: usize = 16;
+pub const MOST_PORTS: usize = 16;
 
-const MAX_FRAME: u32 = 4096;
+// The flows between that many inputs and outputs.
+pub const MOST_FLOWS: usize = MOST_PORTS * MOST_PORTS;
+
+pub const MOST_SLOTS: u32 = 4096;
 
 pub fn ports_in_range(n: usize) -> bool
     ensures { λ r. ⌜ r ≡ portsInRange n ⌝ }
@@ -14,7 +17,7 @@ pub fn ports_in_range(n: usize) -> bool
     if n < 1 {
         return false;
     }
-    n <= MAX_PORTS
+    n <= MOST_PORTS
 }
 
 pub fn frame_in_range(t: u32) -> bool
@@ -23,7 +26,7 @@ pub fn frame_in_range(t: u32) -> bool
     if t < 1 {
         return false;
     }
-    t <= MAX_FRAME
+    t <= MOST_SLOTS
 }
 
 // Whether a list of `len` numbers is N x N long; an N whose square passes 64 bits has no such list.

@@ -6,6 +6,7 @@ use mathlib.Core.Logic.{⊎-elim}
 use native.Mathlib.Omega.{arith}
 use lib.ListN.{length, getD, set, take, replicate, length-append, length-replicate, getD-replicate, List·getD-eq-default}
 use lib.Seq.{take-at, set-at, getD-append-add}
+use Rattle.plan.specs.Range.{mostFlows}
 use Rattle.plan.proofs.BelowLaws.{lt-or-le}
 use Rattle.planfile.specs.Layout.{wordAt, ratesOf, padded}
 
@@ -15,19 +16,19 @@ rates-length file zero = refl
 rates-length file (suc p) = simp length-append (omega (arith, rates-length file p))
 
 -- one more rate is written behind those that stand in the array
-pub padded-next : (file : List ℕ) (p : ℕ) → p < 256 → set (padded (ratesOf file p)) p (wordAt file (8 + 2 * p)) ≡ padded (ratesOf file (suc p))
+pub padded-next : (file : List ℕ) (p : ℕ) → p < mostFlows → set (padded (ratesOf file p)) p (wordAt file (8 + 2 * p)) ≡ padded (ratesOf file (suc p))
 unfolding padded ratesOf
 padded-next file p h =
     let here = ratesOf file p in
-    let places : 256 - length here ≡ suc (256 - suc p) = omega (arith, rates-length file p) in
-    let next : 256 - length (here ++ (wordAt file (8 + 2 * p) ∷ [])) ≡ 256 - suc p = simp length-append (omega (arith, rates-length file p)) in
+    let places : mostFlows - length here ≡ suc (mostFlows - suc p) = omega (arith, rates-length file p) in
+    let next : mostFlows - length (here ++ (wordAt file (8 + 2 * p) ∷ [])) ≡ mostFlows - suc p = simp length-append (omega (arith, rates-length file p)) in
     rw (places, next, append-assoc) (set-at here 0 _ _ p (rates-length file p))
 
 pub padded-take : (rates : List ℕ) (n : ℕ) → length rates ≡ n → take n (padded rates) ≡ rates
 unfolding padded
 padded-take rates n e = take-at rates _ n e
 
-pub padded-length : (rates : List ℕ) → length rates ≤ 256 → length (padded rates) ≡ 256
+pub padded-length : (rates : List ℕ) → length rates ≤ mostFlows → length (padded rates) ≡ mostFlows
 unfolding padded
 padded-length rates h = simp (length-append, length-replicate) (omega arith)
 
@@ -42,5 +43,5 @@ pub padded-past : (rates : List ℕ) (p : ℕ) → length rates ≤ p → getD (
 unfolding padded
 padded-past rates p h =
     let e : p ≡ length rates + (p - length rates) = omega arith in
-    let left = 256 - length rates in
+    let left = mostFlows - length rates in
     ap (λ (q : ℕ). getD (padded rates) q 0) e ∙ getD-append-add rates (replicate left 0) (p - length rates) 0 ∙ zeros left (p - length rates)

@@ -17,7 +17,7 @@ use Rattle.refusal.proofs.ChainLaws.{refuse-passed}
 use Rattle.plan.specs.Lines.{rowSum, columnSum}
 use Rattle.plan.specs.Range.{portsInRange, frameInRange}
 use Rattle.plan.specs.Accept.{withinFrame, acceptOf, IsPlan}
-use Rattle.plan.proofs.AcceptLaws.{accepted}
+use Rattle.plan.proofs.AcceptLaws.{accepted, sums-decide}
 use Rattle.plan.proofs.LineLaws.{square-small}
 use Rattle.planfile.specs.Layout.{isMarked, versionIn, portsIn, frameIn, fileLength}
 use Rattle.plan.specs.NoPlan.{noPlan}
@@ -28,14 +28,6 @@ use Rattle.planfile.proofs.LayoutLaws.{rates-length, padded-take, padde
 pub refuse-ext : (b : Bool) (r : Refusal) {v w : Verdict} → (b ≡ false → v ≡ w) → refuseIf b r v ≡ refuseIf b r w
 refuse-ext true r h = refl
 refuse-ext false r h = h refl
-
--- rows, then columns
-abbrev sumsOf : ℕ → ℕ → List ℕ → Verdict
-sumsOf n t rates = refuseIf (not (withinFrame (rowSum rates n) n t)) RowAboveFrame (refuseIf (not (withinFrame (columnSum rates n) n t)) ColumnAboveFrame Accepted)
-
-sums-decide : (n t : ℕ) (rates : List ℕ) → portsInRange n ≡ true → frameInRange t ≡ true → length rates ≡ n * n → acceptOf n t rates ≡ sumsOf n t rates
-unfolding acceptOf
-sums-decide n t rates hn ht hl = simp (hn, ht, eq-eqb (length rates) (n * n) hl)
 
 -- "File: under 8 bytes 15, then 14, 1, 2, 15, 4, 5": of plan acceptance only the sums are left at the end
 pub verdict-order : (file : List ℕ) →

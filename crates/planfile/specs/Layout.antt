@@ -6,6 +6,7 @@ use mathlib.Core.Bool.{Bool, _&&_}
 use mathlib.Core.List.{List, [], _∷_, _++_}
 use lib.Dec.{eqb}
 use lib.ListN.{length, getD, replicate}
+use Rattle.plan.specs.Range.{mostFlows}
 
 abbrev pub byteAt : List ℕ → ℕ → ℕ
 byteAt file p = getD file p 0
@@ -38,4 +39,4 @@ ratesOf file (suc p) = ratesOf file p ++ (wordAt file (8 + 2 * p) ∷ [])
 
 -- these rates in an array of 256 places, 0 in those that are left
 unfoldable pub padded : List ℕ → List ℕ
-padded rates = rates ++ replicate (256 - length rates) 0
+padded rates = rates ++ replicate (mostFlows - length rates) 0

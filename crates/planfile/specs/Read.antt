@@ -10,7 +10,7 @@ use Rattle.refusal.specs.Chain.{refuseIf, ifAccepted}
 use Rattle.refusal.specs.declared.Refusal.the-variants.{PortsOutOfRange, FrameOutOfRange, NotPlanFile, FileLength}
 use Rattle.refusal.specs.declared.Verdict.{Verdict}
 use Rattle.plan.specs.declared.Plan.{Plan}
-use Rattle.plan.specs.Range.{portsInRange, frameInRange}
+use Rattle.plan.specs.Range.{mostFlows, portsInRange, frameInRange}
 use Rattle.plan.specs.Accept.{acceptOf, IsPlan}
 use Rattle.plan.specs.NoPlan.{noPlan}
 use Rattle.planfile.specs.declared.Reading.{Reading}
@@ -42,5 +42,5 @@ readOf file = readingOf (verdictOf file) (planOf (portsIn file) (frameIn file) (
 -- What is known of the plan of an accepted file, by proofs/ReadLaws.antt.
 pub record FilePlan (plan : Plan) : Type 0 where
   pub is-plan : IsPlan (plan .ports) (plan .frame) (take (plan .ports * plan .ports) (plan .rates))
-  pub places : length (plan .rates) ≡ 256
+  pub places : length (plan .rates) ≡ mostFlows
   pub zero-past : (p : ℕ) → plan .ports * plan .ports ≤ p → getD (plan .rates) p 0 ≡ 0

@@ -5,7 +5,9 @@ ghost use mathlib.Core.Path.{_≡_};
 ghost use Prim.Native.Nat.{_+_, _*_, _<_, _≤_};
 ghost use lib.Dec.{eqb};
 ghost use lib.ListN.{length};
+ghost use Rattle.plan.specs.Range.{mostFlows};
 ghost use Rattle.planfile.specs.Layout.{wordAt, isMarked, versionIn, portsIn, frameIn, ratesOf, padded};
+use plan::range::MOST_FLOWS;
 
 // the bytes before the rates
 pub const HEAD: usize = 8;
@@ -58,11 +60,11 @@ pub fn frame_in(bytes: &[u8]) -> u32
 }
 
 // The first `count` rates, and 0 in the places past them.
-pub fn rates_of(bytes: &[u8], count: usize) -> [u16; 256]
-    requires { ⌜ (count ≤ 256) × (8 + 2 * count ≤ length (now bytes)) ⌝ }
+pub fn rates_of(bytes: &[u8], count: usize) -> [u16; MOST_FLOWS]
+    requires { ⌜ (count ≤ mostFlows) × (8 + 2 * count ≤ length (now bytes)) ⌝ }
     ensures { λ r. ⌜ r ≡ padded (ratesOf (now (bytes .entry)) count) ⌝ }
 {
-    let mut rates = [0u16; 256];
+    let mut rates = [0u16; MOST_FLOWS];
     for p in 0..count {
         rates[p] = word_at(bytes, HEAD + 2 * p);
     }

@@ -2,6 +2,7 @@
 ghost use mathlib.Core.Path.{_≡_};
 ghost use Prim.Native.Nat.{_+_, _*_, _≤_};
 ghost use lib.ListN.{length};
+ghost use Rattle.plan.specs.Range.{mostFlows};
 ghost use Rattle.plan.specs.Accept.{acceptOf};
 ghost use Rattle.plan.specs.NoPlan.{noPlan};
 ghost use Rattle.planfile.specs.Layout.{ratesOf};
@@ -38,7 +39,7 @@ fn refused(refusal: Refusal) -> Reading
 
 // The reading of a file whose head gave N and T, by its first `count` rates.
 fn read_rates(bytes: &[u8], n: usize, t: u32, count: usize) -> Reading
-    requires { ⌜ (count ≤ 256) × (8 + 2 * count ≤ length (now bytes)) ⌝ }
+    requires { ⌜ (count ≤ mostFlows) × (8 + 2 * count ≤ length (now bytes)) ⌝ }
     ensures { λ r. ⌜ r ≡ readingOf (acceptOf n t (ratesOf (now (bytes .entry)) count)) (planOf n t (ratesOf (now (bytes .entry)) count)) ⌝ }
 {
     let rates = rates_of(bytes, count);

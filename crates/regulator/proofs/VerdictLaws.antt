@@ -3,7 +3,6 @@ use Prim.Native.Nat.{ℕ, _*_}
 use mathlib.Core.Path.{_≡_, ap}
 use mathlib.Core.Bool.{not}
 use mathlib.Core.List.{List}
-use borrow.Author.Tests.{eq-eqb}
 use lib.Dec.{leb}
 use lib.ListN.{length, getD}
 use Rattle.refusal.specs.Chain.{refuseIf}
@@ -15,7 +14,7 @@ use Rattle.plan.specs.Lines.{rowSum, columnSum}
 use Rattle.plan.specs.Accept.{withinFrame, acceptOf}
 use Rattle.plan.proofs.BelowLaws.{all-ext}
 use Rattle.plan.proofs.RangeLaws.{ports-in, frame-in}
-use Rattle.plan.proofs.AcceptLaws.{accepted}
+use Rattle.plan.proofs.AcceptLaws.{accepted, sums-decide}
 use Rattle.regulator.specs.Outcome.{listsOf}
 use Rattle.regulator.specs.Sums.{LineSums}
 use Rattle.regulator.specs.Boost.{boostVerdict}
@@ -30,14 +29,12 @@ lists-refused n t given rates r e = rw e
 pub sums-verdict : (n t : ℕ) (given rates rows columns : List ℕ) → listsOf n t (length given) (length rates) ≡ Accepted → LineSums given n rows columns
     → boostVerdict n t given rates
     ≡ refuseIf (not (withinFrame (λ k. getD rows k 0) n t)) RowAboveFrame (refuseIf (not (withinFrame (λ k. getD columns k 0) n t)) ColumnAboveFrame Accepted)
-unfolding boostVerdict acceptOf
+unfolding boostVerdict
 sums-verdict n t given rates rows columns e s =
     let h = lists-passed n t (length given) (length rates) e in
     simp (
       e,
-      ports-in n (h .some-port) (h .few-ports),
-      frame-in t (h .some-slot) (h .few-slots),
-      eq-eqb (length given) (n * n) (h .from-square),
+      sums-decide n t given (ports-in n (h .some-port) (h .few-ports)) (frame-in t (h .some-slot) (h .few-slots)) (h .from-square),
       all-ext (λ k. leb (getD rows k 0) t) (λ k. leb (rowSum given n k) t) n (λ k b. ap (λ (x : ℕ). leb x t) (s .row k b)),
       all-ext (λ k. leb (getD columns k 0) t) (λ k. leb (columnSum given n k) t) n (λ k b. ap (λ (x : ℕ). leb x t) (s .column k b)),
     )

@@ -8,7 +8,7 @@ use Rattle.refusal.specs.Chain.{refuseIf, ifAccepted}
 use Rattle.refusal.specs.declared.Refusal.the-variants.{PortsOutOfRange, FrameOutOfRange, ListLength}
 use Rattle.refusal.specs.declared.Verdict.{Verdict}
 use Rattle.refusal.specs.declared.Verdict.the-variants.{Accepted}
-use Rattle.plan.specs.Range.{portsInRange, frameInRange}
+use Rattle.plan.specs.Range.{mostPorts, mostSlots, portsInRange, frameInRange}
 
 -- the verdict, and the written list as the call leaves it
 pub record Outcome : Type 0 where
@@ -34,8 +34,8 @@ listsOf n t from to =
 -- What is known where these checks pass. proofs/OutcomeLaws.antt has that they pass then, and only then.
 pub record Checked (n t from to : ℕ) : Type 0 where
   pub some-port : 1 ≤ n
-  pub few-ports : n ≤ 16
+  pub few-ports : n ≤ mostPorts
   pub some-slot : 1 ≤ t
-  pub few-slots : t ≤ 4096
+  pub few-slots : t ≤ mostSlots
   pub from-square : from ≡ n * n
   pub to-square : to ≡ n * n

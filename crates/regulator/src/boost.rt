@@ -2,6 +2,7 @@
 ghost use mathlib.Core.Path.{_≡_};
 ghost use Prim.Native.Nat.{_*_, _<_, _≤_};
 ghost use lib.ListN.{length, getD};
+ghost use Rattle.plan.specs.Range.{mostPorts};
 ghost use Rattle.plan.specs.Accept.{IsPlan, withinFrame};
 ghost use Rattle.plan.specs.Lines.{flowOf};
 ghost use Rattle.regulator.specs.Outcome.{outcome};
@@ -11,12 +12,13 @@ use crate::lists::check_lists;
 use crate::sums::Sums;
 use crate::sums::larger;
 use crate::sums::sums_of;
+use plan::range::MOST_PORTS;
 use refusal::Refusal;
 use refusal::Verdict;
 
 // Whether none of the n sums is above t.
-fn sums_fit(sums: [u32; 16], n: usize, t: u32) -> bool
-    requires { ⌜ n ≤ 16 ⌝ }
+fn sums_fit(sums: [u32; MOST_PORTS], n: usize, t: u32) -> bool
+    requires { ⌜ n ≤ mostPorts ⌝ }
     ensures { λ r. ⌜ r ≡ withinFrame (λ k. getD sums k 0) n t ⌝ }
 {
     for k in 0..n {
@@ -38,7 +40,7 @@ fn copy(from: &[u16], to: &mut [u16])
 
 // The column of row i on diagonal k.
 fn column_on(n: usize, k: usize, i: usize) -> usize
-    requires { ⌜ (n ≤ 16) × (k < n) × (i < n) ⌝ }
+    requires { ⌜ (n ≤ mostPorts) × (k < n) × (i < n) ⌝ }
     ensures { λ r. ⌜ (r ≡ columnOn n k i) × (r < n) ⌝ }
 {
     (i + k) % n
@@ -46,7 +48,7 @@ fn column_on(n: usize, k: usize, i: usize) -> usize
 
 // Where the rate of the flow (i, j) stands.
 fn flow(n: usize, i: usize, j: usize) -> usize
-    requires { ⌜ (n ≤ 16) × (i < n) × (j < n) ⌝ }
+    requires { ⌜ (n ≤ mostPorts) × (i < n) × (j < n) ⌝ }
     ensures { λ r. ⌜ (r ≡ flowOf n i j) × (r < n * n) ⌝ }
 {
     i * n + j

@@ -2,6 +2,7 @@
 ghost use mathlib.Core.Path.{_≡_};
 ghost use Prim.Native.Nat.{_≤_};
 ghost use lib.ListN.{length};
+ghost use Rattle.plan.specs.Range.{mostSlots};
 ghost use Rattle.regulator.specs.Outcome.{outcome, Checked};
 ghost use Rattle.regulator.specs.Scale.{shareOf, scaledOf, scaleOf};
 use crate::lists::check_lists;
@@ -11,7 +12,7 @@ use refusal::Verdict;
 
 // The rate of a demand; `sum` is the larger of its two sums.
 fn share(d: u16, t: u32, sum: u32) -> u16
-    requires { ⌜ (d ≤ sum) × (t ≤ 4096) ⌝ }
+    requires { ⌜ (d ≤ sum) × (t ≤ mostSlots) ⌝ }
     ensures { λ r. ⌜ r ≡ shareOf d t sum ⌝ }
 {
     if d == 0 {

@@ -18,7 +18,7 @@ use Rattle.runs.proofs.ShareLaws.{Near, Share, share-join}
 
 -- head j served board i and had no cell
 abbrev pub headEmptyIn : ℕ → ℕ → Event → ℕ
-headEmptyIn i j (stepped lent r) = cond (emptyWith i (answerOf (r .heads) j)) 1 0
+headEmptyIn i j (stepped lent r) = cond (emptyWith i (answerOf (r .sends) j)) 1 0
 headEmptyIn i j (arrived lent p q cell r left) = 0
 headEmptyIn i j (loaded n t rates r) = 0
 

@@ -1,7 +1,6 @@
 -- A load keeps the switch sound, and touches no flow.
 use Prim.Native.Nat.{ℕ, _*_, _<_}
 use mathlib.Core.Path.{_≡_, refl, sym, _∙_}
-use mathlib.Core.Bool.{true}
 use mathlib.Core.List.{List}
 use native.Mathlib.Omega.{arith}
 use Rattle.refusal.specs.declared.Verdict.{Verdict}
@@ -29,7 +28,7 @@ module _ {s : Switch} {store : List ℕ} (ok : Sound s store) (n t : ℕ) (rates
       let same = take-overlaid (s .waiting .rates) rates (n * n) (l .plan .square) (omega (arith, square-small n (l .plan .few-ports), ok .waiting-size)) in
       record { ports = l .ports; frame = l .frame; plan = rw (same, sym (l .ports), sym (l .frame)) (l .plan) }
 
-  sound-load : CanLoad s n t rates → Sound (withPlans s (s .running) loadedPlan true) store
+  sound-load : CanLoad s n t rates → Sound (withPlans s (s .running) loadedPlan 1) store
   sound-load l =
       record {
         plan = ok .plan;
@@ -72,5 +71,5 @@ module _ {s : Switch} {store : List ℕ} (ok : Sound s store) (n t : ℕ) (rates
     load-law = go (loadVerdict s n t rates) refl
       where
         go : (v : Verdict) → loadVerdict s n t rates ≡ v → Law (answered s store (load n t rates))
-        go Accepted e = rw e (quiet-law ok i j hi hj _ (s .running) loadedPlan true refl refl (any-load i j n t rates _))
+        go Accepted e = rw e (quiet-law ok i j hi hj _ (s .running) loadedPlan 1 refl refl (any-load i j n t rates _))
         go (Refused r) e = rw e (quiet-law ok i j hi hj _ (s .running) (s .waiting) (s .waits) refl refl (any-load i j n t rates _))

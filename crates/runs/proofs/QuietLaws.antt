@@ -1,9 +1,9 @@
 -- A call that moves no cell and is no slot: a refused one, or a load.
 use Prim.Native.Nat.{ℕ, _<_}
 use mathlib.Core.Path.{_≡_, refl}
-use mathlib.Core.Bool.{Bool}
 use mathlib.Core.List.{List, [], append-nil}
 use native.Mathlib.Omega.{arith}
+use Rattle.plan.specs.Range.{mostPorts}
 use Rattle.fabric.proofs.ListLaws.{getD-repeated}
 use Rattle.refusal.specs.declared.Refusal.{Refusal}
 use Rattle.refusal.specs.declared.Verdict.the-variants.{Refused}
@@ -30,7 +30,7 @@ pub record Quiet (i j : ℕ) (e : Event) : Type 0 where
 
 -- only the plans of the state may change
 pub quiet-law : {s : Switch} {store : List ℕ} → Sound s store → (i j : ℕ) → i < s .running .ports → j < s .running .ports
-    → (e : Event) (running waiting : Plan) (waits : Bool) → stateAfter e ≡ withPlans s running waiting waits → storeAfter store e ≡ store → Quiet i j e
+    → (e : Event) (running waiting : Plan) (waits : ℕ) → stateAfter e ≡ withPlans s running waiting waits → storeAfter store e ≡ store → Quiet i j e
     → EventLaw (s .running .ports) (s .running .frame) i j s store e
 quiet-law {s} {store} ok i j hi hj e running waiting waits to left q =
     record {
@@ -52,8 +52,8 @@ refused-arrival i j lent p q cell r s left = record { accepted = refl; moved = r
 pub any-load : (i j n t : ℕ) (rates : List ℕ) (r : Reply) → Quiet i j (loaded n t rates r)
 any-load i j n t rates r = record { accepted = refl; moved = refl; left = refl; slots = refl; heads = refl; boards = refl }
 
-pub refused-step : (i j : ℕ) (lent : Lent) (r : Refusal) (s : Switch) → Quiet i j (stepped lent (record { verdict = Refused r; state = s; boards = allIdle; heads = allIdle }))
+pub refused-step : (i j : ℕ) (lent : Lent) (r : Refusal) (s : Switch) → Quiet i j (stepped lent (record { verdict = Refused r; state = s; moves = allIdle; sends = allIdle }))
 refused-step i j lent r s =
-    let board = getD-repeated 16 i (port Idle) in
-    let head = getD-repeated 16 j (port Idle) in
+    let board = getD-repeated mostPorts i (port Idle) in
+    let head = getD-repeated mostPorts j (port Idle) in
     record { accepted = refl; moved = rw board refl; left = rw head refl; slots = refl; heads = rw head refl; boards = rw board refl }

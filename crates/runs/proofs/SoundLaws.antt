@@ -6,6 +6,7 @@ use mathlib.Core.List.{List}
 use native.Mathlib.Nat.{lt-of-mul-lt-mul-right}
 use native.Mathlib.Omega.{arith}
 use lib.ListN.{length, getD}
+use Rattle.plan.specs.Range.{mostPorts, mostFlows}
 use Rattle.plan.specs.Lines.{flowOf}
 use Rattle.plan.specs.Desk.{rowOf}
 use Rattle.plan.specs.Accept.{IsPlan}
@@ -13,8 +14,8 @@ use Rattle.plan.specs.declared.Plan.{Plan}
 use Rattle.multiplexer.specs.Window.{columnOf}
 use Rattle.multiplexer.proofs.PacedLaws.{Paced, paced-early, paced-late, paced-within}
 use Rattle.multiplexer.proofs.PortLaws.{row-length, row-rate, column-length, column-rate}
-use Rattle.fabric.specs.Flow.{noMultiplexer}
-use Rattle.crossbar.specs.State.{queueAt, pointAt, planRates, rateAt, boardCount, headCount}
+use Rattle.fabric.specs.Flow.{mostDepth, noMultiplexer}
+use Rattle.crossbar.specs.State.{hasWaiting, queueAt, pointAt, planRates, rateAt, boardCount, headCount}
 use Rattle.crossbar.specs.declared.state.Switch.{Switch}
 use Rattle.runs.proofs.ShareLaws.{Near}
 
@@ -26,17 +27,17 @@ pub record PlanIn (n t : ℕ) (p : Plan) : Type 0 where
 
 pub record Sound (s : Switch) (store : List ℕ) : Type 0 where
   pub plan : IsPlan (s .running .ports) (s .running .frame) (planRates (s .running))
-  pub waiting : s .waits ≡ true → PlanIn (s .running .ports) (s .running .frame) (s .waiting)
+  pub waiting : hasWaiting s ≡ true → PlanIn (s .running .ports) (s .running .frame) (s .waiting)
   pub some-depth : 1 ≤ s .depth
-  pub few-cells : s .depth ≤ 64
+  pub few-cells : s .depth ≤ mostDepth
   pub in-frame : s .slot < s .running .frame
   -- the arrays have their lengths
-  pub running-size : length (s .running .rates) ≡ 256
-  pub waiting-size : length (s .waiting .rates) ≡ 256
-  pub queues-size : length (s .queues) ≡ 256
-  pub points-size : length (s .crosspoints) ≡ 256
-  pub boards-size : length (s .boards) ≡ 16
-  pub heads-size : length (s .heads) ≡ 16
+  pub running-size : length (s .running .rates) ≡ mostFlows
+  pub waiting-size : length (s .waiting .rates) ≡ mostFlows
+  pub queues-size : length (s .queues) ≡ mostFlows
+  pub points-size : length (s .crosspoints) ≡ mostFlows
+  pub boards-size : length (s .boards) ≡ mostPorts
+  pub heads-size : length (s .heads) ≡ mostPorts
   pub store-size : length store ≡ s .running .ports * s .running .ports * s .depth
   -- each flow's queue and crosspoint
   pub place : (i j : ℕ) → i < s .running .ports → j < s .running .ports → queueAt s (flowOf (s .running .ports) i j) .place < s .depth

@@ -5,6 +5,7 @@ use mathlib.Core.Bool.{true, false, false≢true}
 use mathlib.Core.List.{List}
 use native.Mathlib.Omega.{arith}
 use lib.ListN.{length, getD, replicate, length-replicate, getD-replicate}
+use Rattle.plan.specs.Range.{mostPorts, mostFlows}
 use Rattle.plan.specs.Lines.{flowOf}
 use Rattle.plan.proofs.LineLaws.{flow-below, square-small}
 use Rattle.multiplexer.specs.Window.{FrameStart}
@@ -23,22 +24,22 @@ module _ (n t : ℕ) (rates : List ℕ) (depth : ℕ) (store : List ℕ) (ok : C
   abbrev pub fresh : Switch
   fresh = freshWith (planOf n t rates) depth
 
-  small : (i j : ℕ) → i < n → j < n → flowOf n i j < 256
+  small : (i j : ℕ) → i < n → j < n → flowOf n i j < mostFlows
   small i j hi hj = omega (arith, flow-below n i j hi hj, square-small n (ok .plan .few-ports))
 
   pub queue-is : (i j : ℕ) → i < n → j < n → queueAt fresh (flowOf n i j) ≡ emptyQueue
   unfolding freshWith
-  queue-is i j hi hj = getD-replicate 256 (flowOf n i j) emptyQueue noQueue (small i j hi hj)
+  queue-is i j hi hj = getD-replicate mostFlows (flowOf n i j) emptyQueue noQueue (small i j hi hj)
 
   pub point-is : (i j : ℕ) → i < n → j < n → pointAt fresh (flowOf n i j) ≡ emptyPoint
   unfolding freshWith
-  point-is i j hi hj = getD-replicate 256 (flowOf n i j) emptyPoint noPoint (small i j hi hj)
+  point-is i j hi hj = getD-replicate mostFlows (flowOf n i j) emptyPoint noPoint (small i j hi hj)
 
-  port-is : (p : ℕ) → p < n → getD (replicate 16 restedPort) p noMultiplexer ≡ restedPort
-  port-is p h = getD-replicate 16 p restedPort noMultiplexer (omega (arith, ok .plan .few-ports))
+  port-is : (p : ℕ) → p < n → getD (replicate mostPorts restedPort) p noMultiplexer ≡ restedPort
+  port-is p h = getD-replicate mostPorts p restedPort noMultiplexer (omega (arith, ok .plan .few-ports))
 
-  no-service : (p f : ℕ) → p < n → f < n → getD (getD (replicate 16 restedPort) p noMultiplexer .served) f 0 ≡ 0
-  no-service p f hp hf = rw (port-is p hp) (getD-replicate 16 f 0 0 (omega (arith, ok .plan .few-ports)))
+  no-service : (p f : ℕ) → p < n → f < n → getD (getD (replicate mostPorts restedPort) p noMultiplexer .served) f 0 ≡ 0
+  no-service p f hp hf = rw (port-is p hp) (getD-replicate mostPorts f 0 0 (omega (arith, ok .plan .few-ports)))
 
   pub board-zero : (i j : ℕ) → i < n → j < n → boardCount fresh i j ≡ 0
   unfolding freshWith
@@ -48,8 +49,8 @@ module _ (n t : ℕ) (rates : List ℕ) (depth : ℕ) (store : List ℕ) (ok : C
   unfolding freshWith
   head-zero i j hi hj = no-service j i hj hi
 
-  rested : (m : ℕ) → m ≡ n → FrameStart (replicate 16 0) m
-  rested m e = record { full = length-replicate {A = ℕ} 16 0; zeros = λ f l. getD-replicate 16 f 0 0 (omega (arith, ok .plan .few-ports)) }
+  rested : (m : ℕ) → m ≡ n → FrameStart (replicate mostPorts 0) m
+  rested m e = record { full = length-replicate {A = ℕ} mostPorts 0; zeros = λ f l. getD-replicate mostPorts f 0 0 (omega (arith, ok .plan .few-ports)) }
 
   pub sound-start : Sound fresh store
   unfolding freshWith
@@ -61,12 +62,12 @@ module _ (n t : ℕ) (rates : List ℕ) (depth : ℕ) (store : List ℕ) (ok : C
         some-depth = ok .some-cell;
         few-cells = ok .few-cells;
         in-frame = omega (arith, ok .plan .some-slot);
-        running-size = overlaid-length (replicate 256 0) rates (n * n) ∙ length-replicate {A = ℕ} 256 0;
-        waiting-size = length-replicate {A = ℕ} 256 0;
-        queues-size = length-replicate 256 emptyQueue;
-        points-size = length-replicate 256 emptyPoint;
-        boards-size = length-replicate 16 restedPort;
-        heads-size = length-replicate 16 restedPort;
+        running-size = overlaid-length (replicate mostFlows 0) rates (n * n) ∙ length-replicate {A = ℕ} mostFlows 0;
+        waiting-size = length-replicate {A = ℕ} mostFlows 0;
+        queues-size = length-replicate mostFlows emptyQueue;
+        points-size = length-replicate mostFlows emptyPoint;
+        boards-size = length-replicate mostPorts restedPort;
+        heads-size = length-replicate mostPorts restedPort;
         store-size = ok .store;
         place = λ i j hi hj. rw (queue-is i j hi hj) (ok .some-cell);
         queued = λ i j hi hj. rw (queue-is i j hi hj) (omega arith);

@@ -35,7 +35,7 @@ use Rattle.runs.proofs.QuietLaws.{refused-law, refused-step}
 
 -- an accepted step of a state that no plan takes over any more
 abbrev slotEvent : Lent → Switch → List ℕ → Event
-slotEvent lent u store = stepped lent (record { verdict = Accepted; state = afterSlot u store; boards = slotMoves u store .ports; heads = slotSends u store .ports })
+slotEvent lent u store = stepped lent (record { verdict = Accepted; state = afterSlot u store; moves = slotMoves u store .ports; sends = slotSends u store .ports })
 
 module _ {u : Switch} {store : List ℕ} (ok : Sound u store) (lent : Lent) (i j : ℕ) (hi : i < u .running .ports) (hj : j < u .running .ports) where
   abbrev e : Event
@@ -72,7 +72,7 @@ module _ {u : Switch} {store : List ℕ} (ok : Sound u store) (lent : Lent) (i j
       }
 
 -- the plans of the state before a step don't stand in its law
-other-plans : {s : Switch} {store : List ℕ} {n T i j : ℕ} (running waiting : Plan) (waits : Bool) {e : Event}
+other-plans : {s : Switch} {store : List ℕ} {n T i j : ℕ} (running waiting : Plan) (waits : ℕ) {e : Event}
     → EventLaw n T i j (withPlans s running waiting waits) store e → EventLaw n T i j s store e
 other-plans running waiting waits l =
     let b = l .ledger in
@@ -116,7 +116,7 @@ module _ {s : Switch} {store : List ℕ} (ok : Sound s store) (valid : validOf s
     Law e = EventLaw (s .running .ports) (s .running .frame) i j s store e
 
     abbrev ruling : Switch
-    ruling = withPlans s (replaced (s .running) (s .waiting)) (cleared (s .waiting)) false
+    ruling = withPlans s (replaced (s .running) (s .waiting)) (cleared (s .waiting)) 0
 
     -- with the plan that rules the slot
     ruled : Law (slotEvent own (takeoverOf s) store)
@@ -128,7 +128,7 @@ module _ {s : Switch} {store : List ℕ} (ok : Sound s store) (valid : validOf s
             let same : OtherPlan s ruling = subst (OtherPlan s) (taken s h) (takeover-sound ok .1) in
             rw (taken s h)
             (subst₂ (λ (n T : ℕ). EventLaw n T i j s store (slotEvent own ruling store)) (same .ports) (same .frame)
-            (other-plans (replaced (s .running) (s .waiting)) (cleared (s .waiting)) false
+            (other-plans (replaced (s .running) (s .waiting)) (cleared (s .waiting)) 0
             (slot-law okNow own i j (omega (arith, same .ports)) (omega (arith, same .ports)))))
         go false h = rw (not-taken s h) (slot-law ok own i j hi hj)
 

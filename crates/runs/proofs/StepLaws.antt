@@ -1,19 +1,19 @@
 -- A slot of a sound switch, after any takeover: what the two ports of a flow do, and what becomes of it.
 use Prim.Native.Nat.{ℕ, suc, _+_, _*_, _<_, _≤_, min}
 use mathlib.Core.Path.{_≡_, refl, ap, sym, subst, _∙_}
-use mathlib.Core.Bool.{Bool, true, false, cond, or-true}
+use mathlib.Core.Bool.{Bool, true, false, cond}
 use mathlib.Core.Logic.{_⊎_, ⊎-elim}
 use mathlib.Core.List.{List, []}
 use native.Mathlib.Decide.{ℕ-discrete}
 use native.Mathlib.Omega.{arith}
 use native.Mathlib.Numerals.{add-one}
 use native.Mathlib.Nat.{lt-of-mul-lt-mul-right}
-use lib.Dec.{eqb}
 use lib.ListN.{length, getD}
-use borrow.Author.Tests.{lt-ltb, eqb-true, eqb-false, ne-eqb}
+use borrow.Author.Tests.{eqb-true, eqb-false, ne-eqb}
+use Rattle.plan.specs.Range.{mostPorts, mostFlows}
 use Rattle.plan.specs.Lines.{flowOf}
 use Rattle.plan.specs.Desk.{rowOf}
-use Rattle.plan.proofs.BelowLaws.{all-intro, lt-or-le}
+use Rattle.plan.proofs.BelowLaws.{lt-or-le}
 use Rattle.multiplexer.specs.Choose.{chooseOf}
 use Rattle.multiplexer.specs.Count.{servicesOf, countsAfter, clearedBelow}
 use Rattle.multiplexer.specs.Window.{columnOf}
@@ -28,7 +28,6 @@ use Rattle.crossbar.specs.State.{queueAt, pointAt, planRates, rateAt, boardCoun
 use Rattle.fabric.specs.Answer.{cellsWith, answerOf}
 use Rattle.fabric.specs.Choices.{choiceAt, NamesBelow, CanChoose}
 use Rattle.crossbar.specs.Step.{boardChoices, headChoices}
-use Rattle.fabric.specs.Moves.{roomForAll, roomFor}
 use Rattle.fabric.specs.Counts.{portAfter}
 use Rattle.crossbar.specs.Step.{slotMoves, slotSends, hasRoom, endsFrame, afterSlot}
 use Rattle.fabric.specs.declared.moves.Moves.{Moves}
@@ -37,7 +36,7 @@ use Rattle.fabric.specs.declared.flow.Answer.{Answer}
 use Rattle.fabric.specs.declared.flow.Crosspoint.{Crosspoint}
 use Rattle.crossbar.specs.declared.state.Switch.{Switch}
 use Rattle.fabric.proofs.ChoiceLaws.{choices-at}
-use Rattle.fabric.proofs.MoveLaws.{moves-length, moves-served, moves-passed, moves-answer-idle}
+use Rattle.fabric.proofs.MoveLaws.{room-enough, moves-length, moves-served, moves-passed, moves-answer-idle}
 use Rattle.fabric.proofs.SendLaws.{sends-length, sends-served, sends-passed, sends-answer-idle}
 use Rattle.fabric.proofs.CountLaws.{counts-at, counts-length}
 use Rattle.runs.proofs.ShareLaws.{Near}
@@ -114,12 +113,7 @@ module _ {u : Switch} {store : List ℕ} (ok : Sound u store) where
       omega (arith, lt-of-mul-lt-mul-right T {m = boardCount u i j} {n = headCount u i j + 1} close, ok .balanced i j hi hj)
 
   pub has-room : hasRoom u ≡ true
-  unfolding roomForAll roomFor
-  has-room = all-intro _ n (λ i hi. go i hi (choiceAt (boardChoices u) i) refl)
-    where
-      go : (i : ℕ) → i < n → (c : Choice) → choiceAt (boardChoices u) i ≡ c → roomFor n (u .queues) (u .crosspoints) i c ≡ true
-      go i hi Idle e = refl
-      go i hi (Flow j) e = rw (lt-ltb _ 2 (room-there i j hi (board-names i j hi e) e)) (or-true (eqb (queueAt u (flowOf n i j) .count) 0))
+  has-room = room-enough n (boardChoices u) (u .queues) (u .crosspoints) (λ i j hi e. room-there i j hi (board-names i j hi e) e)
 
   -- what a flow's queue and crosspoint are after the moves, and its crosspoint after the sends
   abbrev moves : Moves
@@ -128,7 +122,7 @@ module _ {u : Switch} {store : List ℕ} (ok : Sound u store) where
   abbrev sends : Sends
   sends = slotSends u store
 
-  points-full : length (moves .crosspoints) ≡ 256
+  points-full : length (moves .crosspoints) ≡ mostFlows
   points-full = moves-length n (u .depth) store (boardChoices u) (u .queues) (u .crosspoints) n .points-kept ∙ ok .points-size
 
   module _ (i j : ℕ) (hi : i < n) (hj : j < n) where
@@ -244,13 +238,13 @@ module _ {u : Switch} {store : List ℕ} (ok : Sound u store) where
         paced-count (ok .heads j hj) (ok .in-frame) i (omega (arith, column-is ok i j hi hj))
         ∙ ap (λ (c : Choice). headCount u i j + servicesOf c i) (sym (head-chooses j hj))
 
-  port-served : (e : Bool) (c : Choice) (m : Multiplexer) → portAfter n e c m .served ≡ cond e (clearedBelow (countsAfter (m .served) c) (min n 16)) (countsAfter (m .served) c)
+  port-served : (e : Bool) (c : Choice) (m : Multiplexer) → portAfter n e c m .served ≡ cond e (clearedBelow (countsAfter (m .served) c) (min n mostPorts)) (countsAfter (m .served) c)
   port-served true c m = refl
   port-served false c m = refl
 
   -- A port of n flows with rates rs and counts ks, after the slot: one slot on, or at the start of the next frame.
   abbrev portNext : Bool → List ℕ → List ℕ
-  portNext last ks = cond last (clearedBelow ks (min n 16)) ks
+  portNext last ks = cond last (clearedBelow ks (min n mostPorts)) ks
 
   abbrev slotNext : ℕ
   slotNext = afterSlot u store .slot
@@ -326,8 +320,8 @@ module _ {u : Switch} {store : List ℕ} (ok : Sound u store) where
             (sym (board-counted i j hi hj) ∙ port-full (row i) (boardKs i) (ok .boards i hi) last j (omega (arith, row-is ok i j hi hj)) ∙ row-rate (planRates (u .running)) n i j hj)
             (sym (head-counted i j hi hj) ∙ port-full (column j) (headKs j) (ok .heads j hj) last i (omega (arith, column-is ok i j hi hj)) ∙ column-rate (planRates (u .running)) n i j hi)
             (slot-at true e)
-            (board-is ∙ rw e (cleared-zero _ (min n 16) j (omega (arith, ok .plan .few-ports))))
-            (head-is ∙ rw e (cleared-zero _ (min n 16) i (omega (arith, ok .plan .few-ports))))
+            (board-is ∙ rw e (cleared-zero _ (min n mostPorts) j (omega (arith, ok .plan .few-ports))))
+            (head-is ∙ rw e (cleared-zero _ (min n mostPorts) i (omega (arith, ok .plan .few-ports))))
         go false e =
             let more : suc (u .slot) ≡ T → ⊥ = λ l. eqb-false (u .slot + 1) T e (add-one (u .slot) ∙ l) in
             goes-on (omega (arith, ok .in-frame))

@@ -16,7 +16,7 @@ use Rattle.multiplexer.specs.Window.{columnOf, FrameStart}
 use Rattle.multiplexer.proofs.PacedLaws.{Paced, paced-start, paced-early, paced-full}
 use Rattle.multiplexer.proofs.PortLaws.{row-length, row-fits, column-length, column-fits}
 use Rattle.fabric.specs.Flow.{noMultiplexer}
-use Rattle.crossbar.specs.State.{planRates}
+use Rattle.crossbar.specs.State.{hasWaiting, planRates}
 use Rattle.crossbar.specs.Load.{withPlans}
 use Rattle.crossbar.specs.Takeover.{replaced, cleared, takesOver, takeoverOf}
 use Rattle.crossbar.specs.declared.state.Switch.{Switch}
@@ -34,7 +34,7 @@ begins {rs} {ks} {T} p m e =
           omega (arith, lt-of-mul-lt-mul-right T {m = getD ks f 0} {n = 1} close);
     }
 
-module _ {s : Switch} {store : List ℕ} (ok : Sound s store) (zero-slot : s .slot ≡ 0) (waits : s .waits ≡ true) where
+module _ {s : Switch} {store : List ℕ} (ok : Sound s store) (zero-slot : s .slot ≡ 0) (waits : hasWaiting s ≡ true) where
   abbrev n : ℕ
   n = s .running .ports
 
@@ -42,7 +42,7 @@ module _ {s : Switch} {store : List ℕ} (ok : Sound s store) (zero-slot : s .sl
   ruling = replaced (s .running) (s .waiting)
 
   abbrev next : Switch
-  next = withPlans s ruling (cleared (s .waiting)) false
+  next = withPlans s ruling (cleared (s .waiting)) 0
 
   here : PlanIn (s .running .ports) (s .running .frame) (s .waiting)
   here = ok .waiting waits
@@ -108,7 +108,7 @@ module _ {s : Switch} {store : List ℕ} (ok : Sound s store) where
   same : OtherPlan s s
   same = record { ports = refl; frame = refl; depth = refl; slot = refl; queues = refl; points = refl; boards = refl; heads = refl }
 
-  other : s .waits ≡ true → OtherPlan s (withPlans s (replaced (s .running) (s .waiting)) (cleared (s .waiting)) false)
+  other : hasWaiting s ≡ true → OtherPlan s (withPlans s (replaced (s .running) (s .waiting)) (cleared (s .waiting)) 0)
   other w =
       let p = ok .waiting w in
       record { ports = p .ports; frame = p .frame; depth = refl; slot = refl; queues = refl; points = refl; boards = refl; heads = refl }
@@ -118,6 +118,6 @@ module _ {s : Switch} {store : List ℕ} (ok : Sound s store) where
     where
       go : (b : Bool) → takesOver s ≡ b → Sound (takeoverOf s) store × OtherPlan s (takeoverOf s)
       go true e =
-          let both = and-true (eqb (s .slot) 0) (s .waits) e in
+          let both = and-true (eqb (s .slot) 0) (hasWaiting s) e in
           rw (taken s e) (sound-taken ok (eqb-true (s .slot) 0 (both .0)) (both .1), other (both .1))
       go false e = rw (not-taken s e) (ok, same)

@@ -6,9 +6,9 @@ use mathlib.Core.Bool.{Bool, true, false, cond}
 use mathlib.Core.List.{List, [], _++_, append-nil}
 use native.Mathlib.Nat.{mod-lt}
 use native.Mathlib.Omega.{arith}
-use lib.Dec.{eqb, ltb}
+use lib.Dec.{ltb}
 use lib.ListN.{length, getD, set, length-set}
-use borrow.Author.Tests.{eqb-true, eqb-false, eq-eqb, ne-eqb}
+use borrow.Author.Tests.{eq-eqb, ne-eqb}
 use Rattle.fabric.specs.Flow.{cellPlace}
 use Rattle.fabric.specs.Answer.{cellsWith, emptyWith}
 use Rattle.fabric.specs.Moves.{moveOf, shorter}
@@ -18,6 +18,8 @@ use Rattle.fabric.specs.declared.flow.Queue.{Queue}
 use Rattle.fabric.specs.declared.flow.Crosspoint.{Crosspoint}
 use Rattle.fabric.specs.declared.moves.Move.{Move}
 use Rattle.fabric.specs.declared.sends.Send.{Send}
+use Rattle.fabric.proofs.MoveLaws.{move-case}
+use Rattle.fabric.proofs.SendLaws.{send-case}
 use Rattle.runs.proofs.CellLaws.{ringCells, ring-shorter, held, held-filled, held-sent}
 
 -- The board's side: b services, the cells moved, and the empty services.
@@ -69,24 +71,19 @@ module _ (store : List ℕ) (depth k j : ℕ) (q : Queue) (x : Crosspoint) (some
   After r = BoardTurn store depth k q (r .queue) x (r .point) 1 (cellsWith j (r .port .answer)) (empties j (r .port .answer))
 
   pub board-serves : (1 ≤ q .count → x .count < 2) → After (moveOf depth j (getD store (cellPlace depth k q 0) 0) q x)
-  unfolding moveOf
-  board-serves room = go (eqb (q .count) 0) refl
-    where
-      go : (b : Bool) → eqb (q .count) 0 ≡ b → After (moveOf depth j (getD store (cellPlace depth k q 0) 0) q x)
-      go true e = rw (e, eq-eqb j j refl) (board-no-cell store depth k q x 1 hp hx)
-      go false e =
-          let ne = eqb-false (q .count) 0 e in
-          let full : 1 ≤ q .count = omega arith in
-          rw (e, eq-eqb j j refl) (
-          record {
-            from-queue = ring-shorter store depth k q full;
-            to-point = sym (held-filled x _ (omega (arith, room full)));
-            count = refl;
-            split = refl;
-            place = mod-lt (q .place + 1) some;
-            shorter = omega arith;
-            size = length-set (x .cells) (x .count) _ ∙ hx;
-          })
+  board-serves room =
+      move-case After depth j (getD store (cellPlace depth k q 0) 0) q x
+      (λ none. rw (eq-eqb j j refl) (board-no-cell store depth k q x 1 hp hx))
+      (λ full. rw (eq-eqb j j refl) (
+      record {
+        from-queue = ring-shorter store depth k q full;
+        to-point = sym (held-filled x _ (omega (arith, room full)));
+        count = refl;
+        split = refl;
+        place = mod-lt (q .place + 1) some;
+        shorter = omega arith;
+        size = length-set (x .cells) (x .count) _ ∙ hx;
+      }))
 
 module _ (i : ℕ) (x : Crosspoint) (hx : length (x .cells) ≡ 2) (two : x .count ≤ 2) where
   abbrev Sent : Send → Type 0
@@ -97,36 +94,25 @@ module _ (i : ℕ) (x : Crosspoint) (hx : length (x .cells) ≡ 2) (two : x .cou
   up-size false = length-set (x .cells) 0 _ ∙ hx
 
   pub head-serves : Sent (sendOf i x)
-  unfolding sendOf
-  head-serves = go (eqb (x .count) 0) refl
-    where
-      go : (b : Bool) → eqb (x .count) 0 ≡ b → Sent (sendOf i x)
-      go true e = rw (e, eq-eqb i i refl) (head-no-cell x 1 (λ _. eqb-true (x .count) 0 e) hx)
-      go false e =
-          let ne = eqb-false (x .count) 0 e in
-          rw (e, eq-eqb i i refl) (
-          record {
-            from-point = held-sent x (omega arith) two hx;
-            count = omega arith;
-            split = refl;
-            dry = λ (h : 1 ≤ 0). absurd (omega arith);
-            size = up-size (ltb 1 (x .count));
-          })
+  head-serves =
+      send-case Sent i x
+      (λ none. rw (eq-eqb i i refl) (head-no-cell x 1 (λ _. none) hx))
+      (λ full. rw (eq-eqb i i refl) (
+      record {
+        from-point = held-sent x full two hx;
+        count = omega arith;
+        split = refl;
+        dry = λ (h : 1 ≤ 0). absurd (omega arith);
+        size = up-size (ltb 1 (x .count));
+      }))
 
 -- a service of another port says nothing of this one
-pub other-move : (depth g j cell : ℕ) (q : Queue) (x : Crosspoint) → (g ≡ j → ⊥)
-    → (cellsWith j (moveOf depth g cell q x .port .answer) ≡ []) × (empties j (moveOf depth g cell q x .port .answer) ≡ 0)
-unfolding moveOf
-other-move depth g j cell q x ne = go (eqb (q .count) 0) refl
-  where
-    go : (b : Bool) → eqb (q .count) 0 ≡ b → (cellsWith j (moveOf depth g cell q x .port .answer) ≡ []) × (empties j (moveOf depth g cell q x .port .answer) ≡ 0)
-    go true e = rw (e, ne-eqb g j ne) (refl, refl)
-    go false e = rw (e, ne-eqb g j ne) (refl, refl)
+abbrev Silent : ℕ → Answer → Type 0
+Silent p a = (cellsWith p a ≡ []) × (empties p a ≡ 0)
 
-pub other-send : (g i : ℕ) (x : Crosspoint) → (g ≡ i → ⊥) → (cellsWith i (sendOf g x .port .answer) ≡ []) × (empties i (sendOf g x .port .answer) ≡ 0)
-unfolding sendOf
-other-send g i x ne = go (eqb (x .count) 0) refl
-  where
-    go : (b : Bool) → eqb (x .count) 0 ≡ b → (cellsWith i (sendOf g x .port .answer) ≡ []) × (empties i (sendOf g x .port .answer) ≡ 0)
-    go true e = rw (e, ne-eqb g i ne) (refl, refl)
-    go false e = rw (e, ne-eqb g i ne) (refl, refl)
+pub other-move : (depth g j cell : ℕ) (q : Queue) (x : Crosspoint) → (g ≡ j → ⊥) → Silent j (moveOf depth g cell q x .port .answer)
+other-move depth g j cell q x ne =
+    move-case (λ r. Silent j (r .port .answer)) depth g cell q x (λ _. rw (ne-eqb g j ne) (refl, refl)) (λ _. rw (ne-eqb g j ne) (refl, refl))
+
+pub other-send : (g i : ℕ) (x : Crosspoint) → (g ≡ i → ⊥) → Silent i (sendOf g x .port .answer)
+other-send g i x ne = send-case (λ r. Silent i (r .port .answer)) g x (λ _. rw (ne-eqb g i ne) (refl, refl)) (λ _. rw (ne-eqb g i ne) (refl, refl))

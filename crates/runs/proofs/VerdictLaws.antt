@@ -8,13 +8,13 @@ use lib.Dec.{ltb, leb, eqb}
 use Rattle.refusal.specs.Chain.{refuseIf, andThen}
 use Rattle.refusal.specs.Number.{numberOf, verdictNumberOf}
 use Rattle.refusal.specs.declared.Refusal.{Refusal}
-use Rattle.refusal.specs.declared.Refusal.the-variants.{PortsOutOfRange, FrameOutOfRange, ListLength, RowAboveFrame, ColumnAboveFrame, StoreLength, PlanMismatch, PlanWaits, NoSuchPort, QueueFull, StateInvalid, CrosspointFull}
+use Rattle.refusal.specs.declared.Refusal.the-variants.{StoreLength, PlanMismatch, PlanWaits, NoSuchPort, QueueFull, StateInvalid, CrosspointFull}
 use Rattle.refusal.specs.declared.Verdict.{Verdict}
 use Rattle.refusal.specs.declared.Verdict.the-variants.{Accepted, Refused}
-use Rattle.plan.specs.Lines.{flowOf, rowSum, columnSum, isSquare}
-use Rattle.plan.specs.Range.{portsInRange, frameInRange}
-use Rattle.plan.specs.Accept.{withinFrame, acceptOf}
-use Rattle.crossbar.specs.State.{queueAt, storeFits}
+use Rattle.plan.specs.Lines.{flowOf}
+use Rattle.plan.specs.Accept.{acceptOf}
+use Rattle.plan.proofs.AcceptLaws.{accept-number}
+use Rattle.crossbar.specs.State.{hasWaiting, queueAt, storeFits}
 use Rattle.crossbar.specs.Valid.{validOf}
 use Rattle.crossbar.specs.Arrive.{arriveVerdict}
 use Rattle.crossbar.specs.Load.{loadVerdict}
@@ -38,13 +38,7 @@ then-fine Accepted rest f g = g
 then-fine (Refused r) rest f g = f
 
 accept-fine : (n t : ℕ) (rates : List ℕ) → Fine (acceptOf n t rates)
-unfolding acceptOf
-accept-fine n t rates =
-    refuse-fine (not (portsInRange n)) PortsOutOfRange _ (omega arith)
-    (refuse-fine (not (frameInRange t)) FrameOutOfRange _ (omega arith)
-    (refuse-fine (not (isSquare n rates)) ListLength _ (omega arith)
-    (refuse-fine (not (withinFrame (rowSum rates n) n t)) RowAboveFrame _ (omega arith)
-    (refuse-fine (not (withinFrame (columnSum rates n) n t)) ColumnAboveFrame _ (omega arith) accepted-fine))))
+accept-fine n t rates = let few = accept-number n t rates in omega arith
 
 module _ (s : Switch) (valid : validOf s ≡ true) where
   pub arrive-fine : (len i j : ℕ) → Fine (arriveVerdict s len i j)
@@ -62,7 +56,7 @@ module _ (s : Switch) (valid : validOf s ≡ true) where
       rw valid
       (then-fine (acceptOf n t rates) _ (accept-fine n t rates)
       (refuse-fine (not (eqb n (s .running .ports) && eqb t (s .running .frame))) PlanMismatch _ (omega arith)
-      (refuse-fine (s .waits) PlanWaits _ (omega arith) accepted-fine)))
+      (refuse-fine (hasWaiting s) PlanWaits _ (omega arith) accepted-fine)))
 
   pub step-fine : hasRoom (takeoverOf s) ≡ true → (len : ℕ) → Fine (stepVerdict s len)
   unfolding stepVerdict

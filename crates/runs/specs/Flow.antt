@@ -29,13 +29,13 @@ acceptedIn i j (loaded n t rates r) = []
 
 -- "Moved are the cells that board i answers as moved to j, in order"
 abbrev pub movedIn : ℕ → ℕ → Event → List ℕ
-movedIn i j (stepped lent r) = cellsWith j (answerOf (r .boards) i)
+movedIn i j (stepped lent r) = cellsWith j (answerOf (r .moves) i)
 movedIn i j (arrived lent p q cell r left) = []
 movedIn i j (loaded n t rates r) = []
 
 -- "left, or sent, are those that head j answers as moved from i, in order."
 abbrev pub leftIn : ℕ → ℕ → Event → List ℕ
-leftIn i j (stepped lent r) = cellsWith i (answerOf (r .heads) j)
+leftIn i j (stepped lent r) = cellsWith i (answerOf (r .sends) j)
 leftIn i j (arrived lent p q cell r left) = []
 leftIn i j (loaded n t rates r) = []
 
@@ -59,7 +59,7 @@ slots es = total slotsIn es
 
 -- "board i never answers empty with j"
 abbrev pub boardEmptyIn : ℕ → ℕ → Event → ℕ
-boardEmptyIn i j (stepped lent r) = cond (emptyWith j (answerOf (r .boards) i)) 1 0
+boardEmptyIn i j (stepped lent r) = cond (emptyWith j (answerOf (r .moves) i)) 1 0
 boardEmptyIn i j (arrived lent p q cell r left) = 0
 boardEmptyIn i j (loaded n t rates r) = 0
 

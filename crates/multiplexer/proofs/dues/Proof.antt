@@ -5,13 +5,14 @@ use native.Mathlib.Omega.{arith}
 use native.Mathlib.Numerals.{add-one}
 use denote.Ref.{now}
 use lib.ListN.{length, length-set}
+use Rattle.plan.specs.Range.{mostPorts}
 use Rattle.multiplexer.specs.Candidate.{Dues}
 use Rattle.multiplexer.proofs.CandidateLaws.{dues-next}
 use Rattle.multiplexer.proofs.dues.Statement.{statement}
 use Rattle.multiplexer.proofs.dues.Tie as tie
 
 abbrev Inv-loop : tie.InvT-loop
-Inv-loop rates n frame slot served dues₀ f₀ dues f = (f ≤ n) × (length dues ≡ 16) × Dues rates served frame slot f dues
+Inv-loop rates n frame slot served dues₀ f₀ dues f = (f ≤ n) × (length dues ≡ mostPorts) × Dues rates served frame slot f dues
 
 abbrev μ-loop : tie.MeasureT-loop
 μ-loop rates n frame slot served dues₀ f₀ dues f = n - f

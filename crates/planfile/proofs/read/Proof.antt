@@ -7,7 +7,7 @@ use denote.Ref.{now}
 use lib.Dec.{ltb, eqb}
 use lib.ListN.{length}
 use borrow.Author.Tests.{lt-ltb, le-ltb, eq-eqb, ne-eqb}
-use Rattle.plan.specs.Range.{portsInRange, frameInRange}
+use Rattle.plan.specs.Range.{mostFlows, portsInRange, frameInRange}
 use Rattle.plan.proofs.LineLaws.{square-small}
 use Rattle.plan.proofs.RangeLaws.{ports-range}
 use Rattle.plan.proofs.TestLaws.{failed, passed}
@@ -37,7 +37,7 @@ frame-pass : (c : tie.Else4) → frameInRange (frameIn (now (c .before .before .
 frame-pass c = passed (frame-test (c .before)) (c .if4 .left)
 
 -- the square of N is small enough for the code's numbers
-few-rates : (c : tie.Else4) → let n = c .before .before .before .before .before .ports-in .result in n * n ≤ 256
+few-rates : (c : tie.Else4) → let n = c .before .before .before .before .before .ports-in .result in n * n ≤ mostFlows
 few-rates c = square-small _ (rw (sym (c .before .before .before .before .before .ports-in .ensures)) at (ports-range _ (ports-pass (c .before .before .before)) .1))
 
 -- the length that the code computes

@@ -1,9 +1,9 @@
 use borrow.Author.Needs.{needs}
 use Prim.Native.Nat.{_-_, _≤_}
-use mathlib.Core.Path.{_≡_, refl, ap, _∙_}
+use mathlib.Core.Path.{_≡_, ap, _∙_}
 use native.Mathlib.Omega.{arith}
-use native.Mathlib.Numerals.{add-one}
 use Rattle.crossbar.specs.Rates.{overlaid}
+use Rattle.crossbar.proofs.RateLaws.{overlaid-none, overlaid-next}
 use Rattle.crossbar.proofs.rates.overlay.Statement.{statement}
 use Rattle.crossbar.proofs.rates.overlay.Tie as tie
 
@@ -14,8 +14,7 @@ abbrev μ-loop : tie.MeasureT-loop
 μ-loop list count rates₀ k₀ rates k = count - k
 
 loop-holds : tie.Need-loop-holds Inv-loop μ-loop
-unfolding overlaid
-loop-holds c = (omega arith, refl)
+loop-holds c = (omega arith, overlaid-none _ _)
 
 mul-rates : tie.Need-mul-rates Inv-loop μ-loop
 mul-rates c = search needs
@@ -36,8 +35,7 @@ loop-less : tie.Need-loop-less Inv-loop μ-loop
 loop-less c = search needs
 
 loop-again : tie.Need-loop-again Inv-loop μ-loop
-unfolding overlaid
-loop-again c = (omega arith, rw add-one (cc))
+loop-again c = (omega arith, overlaid-next _ _ _ _ (c .before .before .loop .inv .1))
 
 returns : tie.Need-returns Inv-loop μ-loop
 returns c = let e : c .before .loop .k ≡ c .before .before .args .count = omega arith in c .before .loop .inv .1 ∙ ap (overlaid _ _) e

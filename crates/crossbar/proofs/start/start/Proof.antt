@@ -4,6 +4,7 @@ use mathlib.Core.Path.{_≡_, sym, _∙_}
 use native.Mathlib.Omega.{arith}
 use denote.Ref.{now}
 use lib.ListN.{length}
+use Rattle.plan.specs.Range.{mostFlows}
 use Rattle.plan.proofs.LineLaws.{square-small}
 use Rattle.refusal.specs.declared.Verdict.the-variants.{Accepted}
 use Rattle.crossbar.specs.Start.{startVerdict}
@@ -14,7 +15,7 @@ use Rattle.crossbar.proofs.start.start.Tie as tie
 pass : (c : tie.After-enum-told) → let a = c .before .before .before .before .before .args in startVerdict (a .n) (a .t) (now (a .rates)) (a .depth) (length (now (a .store))) ≡ Accepted
 pass c = sym (c .before .before .start-verdict .ensures) ∙ c .enum-told .given .1
 
-room : (c : tie.After-enum-told) → let a = c .before .before .before .before .before .args in (a .n * a .n ≤ 256) × (a .n * a .n ≤ length (now (a .rates)))
+room : (c : tie.After-enum-told) → let a = c .before .before .before .before .before .args in (a .n * a .n ≤ mostFlows) × (a .n * a .n ≤ length (now (a .rates)))
 room c = let p = can-start _ _ _ _ _ (pass c) .plan in (square-small _ (p .few-ports), omega (arith, p .square))
 
 start-verdict-requires : tie.Need-start-verdict-requires

@@ -5,6 +5,7 @@ use mathlib.Core.Path.{_≡_, refl, sym}
 use native.Mathlib.Omega.{arith}
 use native.Mathlib.Numerals.{add-one}
 use lib.ListN.{getD}
+use Rattle.plan.specs.Range.{mostFlows}
 use Rattle.plan.specs.Below.{allBelow}
 use Rattle.plan.proofs.BelowLaws.{all-fails}
 use Rattle.plan.proofs.TestLaws.{failed, passed}
@@ -17,7 +18,7 @@ use Rattle.crossbar.proofs.valid.flows_valid.Tie as tie
 
 abbrev Inv-loop : tie.InvT-loop
 Inv-loop n depth queues points k₀ flows k =
-    (k ≤ flows) × (flows ≤ 256) × (allBelow (λ f. flowValid depth (getD queues f noQueue) (getD points f noPoint)) k ≡ true)
+    (k ≤ flows) × (flows ≤ mostFlows) × (allBelow (λ f. flowValid depth (getD queues f noQueue) (getD points f noPoint)) k ≡ true)
 
 abbrev μ-loop : tie.MeasureT-loop
 μ-loop n depth queues points k₀ flows k = flows - k

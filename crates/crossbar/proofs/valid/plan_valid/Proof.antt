@@ -5,24 +5,26 @@ use mathlib.Core.Path.{ap, sym, _∙_}
 use native.Mathlib.Omega.{arith}
 use Rattle.refusal.specs.Chain.{ifAccepted}
 use Rattle.refusal.specs.declared.Verdict.{Verdict}
-use Rattle.plan.specs.Accept.{acceptOf}
+use Rattle.plan.specs.Range.{mostPorts}
 use Rattle.plan.proofs.TestLaws.{failed, passed}
 use Rattle.plan.proofs.RangeLaws.{ports-range}
+use Rattle.plan.proofs.AcceptLaws.{ports-decide}
 use Rattle.plan.proofs.LineLaws.{square-small}
+use Rattle.crossbar.specs.State.{planRates}
 use Rattle.crossbar.specs.Valid.{planValid}
 use Rattle.crossbar.proofs.OwnedLaws.{rates-cover, rates-square}
 use Rattle.crossbar.proofs.valid.plan_valid.Statement.{statement}
 use Rattle.crossbar.proofs.valid.plan_valid.Tie as tie
 
-few-ports : (c : tie.Else1) → c .before .before .args .plan .ports ≤ 16
+few-ports : (c : tie.Else1) → c .before .before .args .plan .ports ≤ mostPorts
 few-ports c = ports-range _ (passed (c .before .ports-in-range .ensures) (c .if1 .left)) .1
 
 ports-in-range-requires : tie.Need-ports-in-range-requires
 ports-in-range-requires c κs = search needs
 
 returns : tie.Need-returns
-unfolding planValid acceptOf
-returns c = simp (failed (c .before .ports-in-range .ensures) (c .if1 .taken))
+unfolding planValid
+returns c = simp (ports-decide (c .before .before .args .plan .ports) (c .before .before .args .plan .frame) (planRates (c .before .before .args .plan)) (failed (c .before .ports-in-range .ensures) (c .if1 .taken)))
 
 mul-rates : tie.Need-mul-rates
 mul-rates c = omega (arith, square-small _ (few-ports (c .before)))

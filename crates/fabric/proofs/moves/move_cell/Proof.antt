@@ -3,13 +3,14 @@ use Prim.Native.Nat.{_+_, _<_}
 use native.Mathlib.Nat.{mod-lt}
 use native.Mathlib.Omega.{arith}
 use borrow.Author.Tests.{eq-eqb, ne-eqb}
+use Rattle.fabric.specs.Flow.{crosspointDepth}
 use Rattle.fabric.specs.Moves.{moveOf}
 use Rattle.fabric.proofs.MoveLaws.{room-left}
 use Rattle.fabric.proofs.moves.move_cell.Statement.{statement}
 use Rattle.fabric.proofs.moves.move_cell.Tie as tie
 
 -- where the queue has a cell
-room : (c : tie.Else1) → c .before .before .args .point .count < 2
+room : (c : tie.Else1) → c .before .before .args .point .count < crosspointDepth
 room c = room-left (c .before .before .args .queue) (c .before .before .args .point) (c .before .before .pre .room) (c .if1 .left)
 
 returns : tie.Need-returns

@@ -2,10 +2,10 @@ use borrow.Author.Needs.{needs}
 use Prim.Native.Nat.{_-_, _≤_, min}
 use mathlib.Core.Path.{_≡_, refl, ap, _∙_}
 use native.Mathlib.Omega.{arith}
-use native.Mathlib.Numerals.{add-one}
 use denote.Ref.{now}
 use lib.ListN.{length, length-set}
 use Rattle.crossbar.specs.Rates.{overlaid}
+use Rattle.crossbar.proofs.RateLaws.{overlaid-none, overlaid-next}
 use Rattle.gambyre.specs.Written.{numbered}
 use Rattle.gambyre.proofs.plans.copy_row.Statement.{statement}
 use Rattle.gambyre.proofs.plans.copy_row.Tie as tie
@@ -20,8 +20,7 @@ smaller-requires : tie.Need-smaller-requires Inv-loop μ-loop
 smaller-requires c κs = search needs
 
 loop-holds : tie.Need-loop-holds Inv-loop μ-loop
-unfolding overlaid
-loop-holds c = (omega arith, c .smaller .ensures, refl, refl)
+loop-holds c = (omega arith, c .smaller .ensures, overlaid-none _ _, refl)
 
 mul-out : tie.Need-mul-out Inv-loop μ-loop
 mul-out c = search needs
@@ -42,10 +41,9 @@ loop-less : tie.Need-loop-less Inv-loop μ-loop
 loop-less c = search needs
 
 loop-again : tie.Need-loop-again Inv-loop μ-loop
-unfolding overlaid
 loop-again c =
     let at = c .before .before .loop in
-    (omega arith, at .inv .1, rw add-one (cc), simp length-set (at .inv .3))
+    (omega arith, at .inv .1, overlaid-next _ _ _ _ (at .inv .2), simp length-set (at .inv .3))
 
 same-length : tie.Need-same-length Inv-loop μ-loop
 same-length c = search needs

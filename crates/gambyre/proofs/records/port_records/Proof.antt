@@ -3,15 +3,16 @@ use Prim.Native.Nat.{_-_, _≤_}
 use mathlib.Core.Path.{_≡_, refl}
 use native.Mathlib.Omega.{arith}
 use native.Mathlib.Numerals.{add-one}
+use Rattle.plan.specs.Range.{mostPorts}
 use Rattle.gambyre.specs.Records.{recordsBelow}
 use Rattle.gambyre.proofs.records.port_records.Statement.{statement}
 use Rattle.gambyre.proofs.records.port_records.Tie as tie
 
 abbrev Inv-loop : tie.InvT-loop
-Inv-loop ports records₀ p₀ records p = (p ≤ 16) × (records ≡ recordsBelow ports p)
+Inv-loop ports records₀ p₀ records p = (p ≤ mostPorts) × (records ≡ recordsBelow ports p)
 
 abbrev μ-loop : tie.MeasureT-loop
-μ-loop ports records₀ p₀ records p = 16 - p
+μ-loop ports records₀ p₀ records p = mostPorts - p
 
 loop-holds : tie.Need-loop-holds Inv-loop μ-loop
 unfolding recordsBelow
@@ -44,7 +45,7 @@ loop-again c = (omega arith, rw (add-one, c .port-record .ensures, c .before .be
 
 returns : tie.Need-returns Inv-loop μ-loop
 returns c =
-    let e : c .before .loop .p ≡ 16 = omega arith in
+    let e : c .before .loop .p ≡ mostPorts = omega arith in
     rw e at (c .before .loop .inv .1)
 
 pub port-records-spec : {M : Type 1} → statement M

@@ -5,13 +5,14 @@ use native.Mathlib.Numerals.{add-one}
 use native.Mathlib.Omega.{arith}
 use denote.Ref.{now}
 use lib.ListN.{length}
+use Rattle.plan.specs.Range.{mostFlows}
 use Rattle.planfile.specs.Layout.{ratesOf, padded}
 use Rattle.planfile.proofs.LayoutLaws.{padded-next}
 use Rattle.planfile.proofs.layout.rates_of.Statement.{statement}
 use Rattle.planfile.proofs.layout.rates_of.Tie as tie
 
 abbrev Inv-loop : tie.InvT-loop
-Inv-loop bytes count rates₀ p₀ rates p = (p ≤ count) × (256 ≡ length rates) × (rates ≡ padded (ratesOf bytes p))
+Inv-loop bytes count rates₀ p₀ rates p = (p ≤ count) × (mostFlows ≡ length rates) × (rates ≡ padded (ratesOf bytes p))
 
 abbrev μ-loop : tie.MeasureT-loop
 μ-loop bytes count rates₀ p₀ rates p = count - p

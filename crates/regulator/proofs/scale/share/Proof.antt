@@ -3,6 +3,7 @@ use Prim.Native.Nat.{_*_, _≤_}
 use native.Mathlib.Nat.{mul-le-mul}
 use native.Mathlib.Omega.{arith}
 use borrow.Author.Tests.{eq-eqb, ne-eqb}
+use Rattle.plan.specs.Range.{mostSlots}
 use Rattle.regulator.proofs.ScaleLaws.{share-within}
 use Rattle.regulator.proofs.scale.share.Statement.{statement}
 use Rattle.regulator.proofs.scale.share.Tie as tie
@@ -14,7 +15,7 @@ mul-result : tie.Need-mul-result
 mul-result c =
     let a = c .before .args in
     let d : a .d ≤ 65535 = search needs in
-    let most : a .d * a .t ≤ 65535 * 4096 = mul-le-mul d (c .before .pre .1) in
+    let most : a .d * a .t ≤ 65535 * mostSlots = mul-le-mul d (c .before .pre .1) in
     omega arith
 
 div-result : tie.Need-div-result

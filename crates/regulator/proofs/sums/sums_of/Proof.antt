@@ -4,6 +4,7 @@ use mathlib.Core.Path.{_≡_, _∙_}
 use native.Mathlib.Omega.{arith}
 use denote.Ref.{now}
 use lib.ListN.{length}
+use Rattle.plan.specs.Range.{mostPorts}
 use Rattle.plan.specs.Lines.{rowSum, columnSum}
 use Rattle.plan.proofs.LineLaws.{rows-in, columns-in, row-line, column-line}
 use Rattle.regulator.specs.Sums.{Holds}
@@ -13,7 +14,7 @@ use Rattle.regulator.proofs.sums.sums_of.Tie as tie
 
 abbrev Inv-loop : tie.InvT-loop
 Inv-loop list n rows₀ columns₀ k₀ rows columns k =
-    (k ≤ n) × (16 ≡ length rows) × (16 ≡ length columns) × Holds rows (rowSum list n) k × Holds columns (columnSum list n) k
+    (k ≤ n) × (mostPorts ≡ length rows) × (mostPorts ≡ length columns) × Holds rows (rowSum list n) k × Holds columns (columnSum list n) k
 
 abbrev μ-loop : tie.MeasureT-loop
 μ-loop list n rows₀ columns₀ k₀ rows columns k = n - k

@@ -4,6 +4,7 @@ use mathlib.Core.Path.{_≡_}
 use mathlib.Core.Bool.{true}
 use native.Mathlib.Omega.{arith}
 use borrow.Author.Tests.{lt-ltb, le-ltb, lt-leb, le-leb}
+use Rattle.plan.specs.Range.{mostFlows}
 use Rattle.plan.specs.Lines.{flowOf}
 use Rattle.plan.proofs.TestLaws.{failed, passed}
 use Rattle.plan.proofs.LineLaws.{flow-below, square-small}
@@ -22,7 +23,7 @@ valid-pass c = passed (c .before .is-valid .ensures) (c .if1 .left)
 store-pass : (c : tie.Else2) → let a = c .before .before .before .before .args in storeFits (a .t1 .running .ports) (a .t1 .depth) (a .len) ≡ true
 store-pass c = passed (c .before .store-fits .ensures) (c .if2 .left)
 
-flow-small : (c : tie.Else4) → let a = c .before .before .before .before .before .before .args in flowOf (a .t1 .running .ports) (a .i) (a .j) < 256
+flow-small : (c : tie.Else4) → let a = c .before .before .before .before .before .before .args in flowOf (a .t1 .running .ports) (a .i) (a .j) < mostFlows
 flow-small c =
     let n = c .before .before .before .before .before .before .args .t1 .running .ports in
     omega (

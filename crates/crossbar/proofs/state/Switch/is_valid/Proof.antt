@@ -3,8 +3,9 @@ use Prim.Native.Nat.{_≤_}
 use mathlib.Core.Bool.{true}
 use mathlib.Core.Path.{_≡_}
 use borrow.Author.Tests.{lt-ltb, le-ltb}
+use Rattle.plan.specs.Range.{mostPorts}
 use Rattle.plan.proofs.TestLaws.{failed, passed}
-use Rattle.crossbar.specs.State.{depthInRange}
+use Rattle.crossbar.specs.State.{hasWaiting, depthInRange}
 use Rattle.crossbar.specs.Valid.{plansValid, validOf}
 use Rattle.crossbar.proofs.ValidLaws.{running-valid}
 use Rattle.crossbar.proofs.state.Switch.is_valid.Statement.{statement}
@@ -12,16 +13,16 @@ use Rattle.crossbar.proofs.state.Switch.is_valid.Tie as tie
 
 -- What each test has shown once it is passed.
 
-plans-pass : (c : tie.Else1) → let s = c .before .before .before .before .args .self in plansValid (s .running) (s .waiting) (s .waits) ≡ true
+plans-pass : (c : tie.Else1) → let s = c .before .before .before .before .before .args .self in plansValid (s .running) (s .waiting) (hasWaiting s) ≡ true
 plans-pass c = passed (c .before .plans-valid .ensures) (c .if1 .left)
 
-depth-pass : (c : tie.Else2) → depthInRange (c .before .before .before .before .before .before .args .self .depth) ≡ true
+depth-pass : (c : tie.Else2) → depthInRange (c .before .before .before .before .before .before .before .args .self .depth) ≡ true
 depth-pass c = passed (c .before .depth-in-range .ensures) (c .if2 .left)
 
-few-ports : (c : tie.Else1) → c .before .before .before .before .args .self .running .ports ≤ 16
+few-ports : (c : tie.Else1) → c .before .before .before .before .before .args .self .running .ports ≤ mostPorts
 few-ports c =
-    let s = c .before .before .before .before .args .self in
-    running-valid (s .running) (s .waiting) (s .waits) (plans-pass c) .few-ports
+    let s = c .before .before .before .before .before .args .self in
+    running-valid (s .running) (s .waiting) (hasWaiting s) (plans-pass c) .few-ports
 
 plans-valid-requires : tie.Need-plans-valid-requires
 plans-valid-requires c κs = search needs

@@ -5,6 +5,7 @@ use native.Mathlib.Omega.{arith}
 use denote.Ref.{now}
 use lib.ListN.{length}
 use Rattle.refusal.specs.declared.Verdict.the-variants.{Accepted}
+use Rattle.plan.specs.Range.{mostFlows}
 use Rattle.plan.proofs.LineLaws.{square-small}
 use Rattle.crossbar.specs.Load.{loadVerdict}
 use Rattle.crossbar.proofs.LoadLaws.{can-load, load-accepted, load-refused}
@@ -14,7 +15,7 @@ use Rattle.crossbar.proofs.state.Switch.load.Tie as tie
 pass : (c : tie.After-enum-told) → let a = c .before .before .before .before .args in loadVerdict (a .self) (a .n) (a .t) (now (a .rates)) ≡ Accepted
 pass c = sym (c .before .before .load-verdict .ensures) ∙ c .enum-told .given .1
 
-room : (c : tie.After-enum-told) → let a = c .before .before .before .before .args in (a .n * a .n ≤ 256) × (a .n * a .n ≤ length (now (a .rates)))
+room : (c : tie.After-enum-told) → let a = c .before .before .before .before .args in (a .n * a .n ≤ mostFlows) × (a .n * a .n ≤ length (now (a .rates)))
 room c = let p = can-load _ _ _ _ (pass c) .plan in (square-small _ (p .few-ports), omega (arith, p .square))
 
 load-verdict-requires : tie.Need-load-verdict-requires

@@ -63,27 +63,27 @@ returns-4 c =
 returns-5 : tie.Need-returns-5
 unfolding loadVerdict
 returns-5 c =
-    let c2 = c .before .before .before in
+    let c2 = c .before .before .before .before in
     let c1 = c2 .before .before in
     simp (
       valid-pass (c1 .before .before .before),
       plan-pass c1,
       eq-eqb _ _ (c2 .if2 .left),
-      eq-eqb _ _ (c .before .if3 .left),
-      c .if4 .taken,
+      eq-eqb _ _ (c .before .before .if3 .left),
+      ne-eqb _ _ (c .if4 .taken),
     )
 
 returns-6 : tie.Need-returns-6
 unfolding loadVerdict
 returns-6 c =
-    let c2 = c .before .before .before in
+    let c2 = c .before .before .before .before in
     let c1 = c2 .before .before in
     simp (
       valid-pass (c1 .before .before .before),
       plan-pass c1,
       eq-eqb _ _ (c2 .if2 .left),
-      eq-eqb _ _ (c .before .if3 .left),
-      c .if4 .left,
+      eq-eqb _ _ (c .before .before .if3 .left),
+      eq-eqb _ _ (c .if4 .left),
     )
 
 pub load-verdict-spec : {M : Type 1} → statement M

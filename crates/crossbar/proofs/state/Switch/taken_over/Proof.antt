@@ -3,6 +3,7 @@ use Prim.Native.Nat.{_*_, _≤_}
 use mathlib.Core.Path.{_≡_, sym, _∙_}
 use mathlib.Core.Bool.{true}
 use native.Mathlib.Omega.{arith}
+use Rattle.plan.specs.Range.{mostFlows}
 use Rattle.plan.proofs.LineLaws.{square-small}
 use Rattle.crossbar.specs.Takeover.{takesOver}
 use Rattle.crossbar.proofs.RateLaws.{overlaid-zeros}
@@ -13,7 +14,7 @@ use Rattle.crossbar.proofs.state.Switch.taken_over.Tie as tie
 takes : (c : tie.Then1) → takesOver (c .before .before .args .self) ≡ true
 takes c = sym (c .before .takes-over .ensures) ∙ c .if1 .taken
 
-room : (c : tie.Then1) → let n = c .before .before .args .self .waiting .ports in n * n ≤ 256
+room : (c : tie.Then1) → let n = c .before .before .args .self .waiting .ports in n * n ≤ mostFlows
 room c = square-small _ (c .before .before .pre .few (takes c))
 
 takes-over-requires : tie.Need-takes-over-requires
@@ -38,7 +39,7 @@ returns : tie.Need-returns
 returns c =
     let s = c .before .before .before .before .before .before .before .before .args .self in
     let n = s .waiting .ports in
-    cc (taken s (takes (c .before .before .before .before .before .before)), overlaid-zeros (s .waiting .rates) 256 (n * n))
+    cc (taken s (takes (c .before .before .before .before .before .before)), overlaid-zeros (s .waiting .rates) mostFlows (n * n))
 
 returns-2 : tie.Need-returns-2
 returns-2 c = sym (not-taken _ (sym (c .before .takes-over .ensures) ∙ c .if1 .left))

@@ -6,7 +6,7 @@ returns : tie.Need-returns
 returns c = simp (ne-eqb (c .before .before .args .self .slot) 0 (c .if1 .taken))
 
 returns-2 : tie.Need-returns-2
-returns-2 c = simp (eq-eqb (c .before .before .args .self .slot) 0 (c .if1 .left))
+returns-2 c = simp (eq-eqb (c .before .before .before .args .self .slot) 0 (c .before .if1 .left))
 
 pub takes-over-spec : {M : Type 1} → statement M
 takes-over-spec = tie.close (tie.spec returns returns-2)
