@@ -27,9 +27,11 @@ use Rattle.crossbar.specs.State.{hasWaiting, planRates}
 use Rattle.crossbar.specs.Valid.{validOf, IsValid}
 use Rattle.crossbar.specs.Load.{withPlans}
 use Rattle.crossbar.specs.Takeover.{takesOver, replaced, cleared, takeoverOf}
-use Rattle.crossbar.specs.Step.{boardChoices, headChoices, slotMoves, slotSends, slotReply, stepVerdict, stepOf, Sized, IdlesOnly}
+use Rattle.crossbar.specs.Step.{boardChoices, headChoices, slotMoves, slotSends, slotReply, stepVerdict, stepOf, IdlesOnly}
 use Rattle.crossbar.specs.declared.state.Switch.{Switch}
+use Rattle.crossbar.specs.declared.state.SlotReply.{SlotReply}
 use Rattle.crossbar.proofs.ValidLaws.{valid}
+use Rattle.crossbar.proofs.OwnedLaws.{Sized}
 use Rattle.crossbar.proofs.TakeoverLaws.{taken, not-taken, taken-rates}
 
 module _
@@ -84,16 +86,20 @@ module _
               (omega (arith, column-length (planRates (u .running)) n j, few));
         }
 
-pub idles-only : (s : Switch) (store : List ℕ) → Sized s → stepOf s store .verdict ≡ Accepted → IdlesOnly (takeoverOf s) (stepOf s store)
+-- of a step that is answered as defined
+pub idles-only : (s : Switch) (store : List ℕ) (r : SlotReply) → Sized s → r ≡ stepOf s store → r .verdict ≡ Accepted → IdlesOnly (takeoverOf s) r
 unfolding stepOf stepVerdict
-idles-only s store size e =
+idles-only s store r size is accepted =
     subst (IdlesOnly (takeoverOf s)) (sym done) (go (takesOver s) refl)
   where
-    rules : IsValid s
-    rules = valid s (not-false _ (refuse-passed (not (validOf s)) _ _ e .0))
+    verdict : stepVerdict s (length store) ≡ Accepted
+    verdict = sym (ap (λ (a : SlotReply). a .verdict) is) ∙ accepted
 
-    done : stepOf s store ≡ slotReply (takeoverOf s) store
-    done = rw e refl
+    rules : IsValid s
+    rules = valid s (not-false _ (refuse-passed (not (validOf s)) _ _ verdict .0))
+
+    done : r ≡ slotReply (takeoverOf s) store
+    done = is ∙ rw verdict refl
 
     go : (b : Bool) → takesOver s ≡ b → IdlesOnly (takeoverOf s) (slotReply (takeoverOf s) store)
     go true t =

@@ -1,4 +1,4 @@
--- What owning a plan tells of the array of its rates: it has room for the N × N of the plan.
+-- What owning a plan or a state tells of its arrays: they have their lengths, and so room for the N × N of a plan.
 use Prim.Native.Nat.{ℕ, _*_, _≤_}
 use mathlib.Core.List.{List, map}
 use mathlib.Core.Path.{_≡_, sym, _∙_}
@@ -15,6 +15,8 @@ use Rattle.plan.specs.declared.Plan.{Plan}
 use Rattle.plan.proofs.Plan.{the-type}
 use Rattle.plan.proofs.LineLaws.{square-small}
 use Rattle.crossbar.specs.State.{planRates}
+use Rattle.crossbar.specs.declared.state.Switch.{Switch}
+use Rattle.crossbar.proofs.state.Switch as switch
 
 module _ (p : Plan) (vs : List Val) (owned : Is (row the-type) p vs) where
   -- `owned` has a part for each field of the struct, and the rates are the third
@@ -28,3 +30,20 @@ module _ (p : Plan) (vs : List Val) (owned : Is (row the-type) p vs) where
 
   pub rates-square : p .ports ≤ mostPorts → length (planRates p) ≡ p .ports * p .ports
   rates-square few = length-take-le _ (p .rates) (rates-cover few)
+
+-- the arrays of a state have their lengths
+pub record Sized (s : Switch) : Type 0 where
+  pub running : length (s .running .rates) ≡ mostFlows
+  pub waiting : length (s .waiting .rates) ≡ mostFlows
+  pub queues : length (s .queues) ≡ mostFlows
+  pub points : length (s .crosspoints) ≡ mostFlows
+
+-- those of every state in the code do; `owned` has the fields in the order of the struct
+pub owned-sized : (s : Switch) (vs : List Val) → Is (row switch.the-type) s vs → Sized s
+owned-sized s vs owned =
+    record {
+      running = rates-full (s .running) _ (owned .1 .1 .0);
+      waiting = rates-full (s .waiting) _ (owned .1 .1 .1 .0);
+      queues = sym (length-map (s .queues) _) ∙ owned .1 .1 .1 .1 .1 .1 .1 .0 .1 .0 .1;
+      points = sym (length-map (s .crosspoints) _) ∙ owned .1 .1 .1 .1 .1 .1 .1 .1 .0 .1 .0 .1;
+    }

@@ -106,6 +106,14 @@ stepOf s store =
 abbrev pub Steps : Switch → List ℕ → SlotReply → Type 0
 Steps s store r = r ≡ stepOf s store
 
+-- "With none eligible the port idles", and in no other case: where a port of an accepted step reads idle, no flow of it is
+-- eligible. u is the state after the takeover.
+pub record IdlesOnly (u : Switch) (r : SlotReply) : Type 0 where
+  pub boards : (i f : ℕ) → i < u .running .ports → f < u .running .ports → answerOf (r .moves) i ≡ Idle
+      → eligibleAt (rowOf (planRates (u .running)) (u .running .ports) i) (getD (u .boards) i noMultiplexer .served) (u .running .frame) (u .slot) f ≡ false
+  pub heads : (j f : ℕ) → j < u .running .ports → f < u .running .ports → answerOf (r .sends) j ≡ Idle
+      → eligibleAt (columnOf (planRates (u .running)) (u .running .ports) j) (getD (u .heads) j noMultiplexer .served) (u .running .frame) (u .slot) f ≡ false
+
 -- For the code, which lets the boards choose before the waiting plan takes over: the plan that rules the slot.
 abbrev pub ruling : Bool → Plan → Plan → Plan
 ruling true running waiting = replaced running waiting
@@ -126,18 +134,3 @@ pub record CanRun (s : Switch) (len : ℕ) (boards : List Choice) : Type 0 where
   pub store : len ≡ s .running .ports * s .running .ports * s .depth
   pub chosen : ChosenAs (boardChoices s) (s .running .ports) boards
   pub room : hasRoom s ≡ true
-
--- The arrays of a state have their lengths, as those of every `Switch` in the code do.
-pub record Sized (s : Switch) : Type 0 where
-  pub running : length (s .running .rates) ≡ mostFlows
-  pub waiting : length (s .waiting .rates) ≡ mostFlows
-  pub queues : length (s .queues) ≡ mostFlows
-  pub points : length (s .crosspoints) ≡ mostFlows
-
--- "With none eligible the port idles", and in no other case: where a port of an accepted step reads idle, no flow of it is
--- eligible. u is the state after the takeover. proofs/IdleLaws.antt has that it holds of every accepted step.
-pub record IdlesOnly (u : Switch) (r : SlotReply) : Type 0 where
-  pub boards : (i f : ℕ) → i < u .running .ports → f < u .running .ports → answerOf (r .moves) i ≡ Idle
-      → eligibleAt (rowOf (planRates (u .running)) (u .running .ports) i) (getD (u .boards) i noMultiplexer .served) (u .running .frame) (u .slot) f ≡ false
-  pub heads : (j f : ℕ) → j < u .running .ports → f < u .running .ports → answerOf (r .sends) j ≡ Idle
-      → eligibleAt (columnOf (planRates (u .running)) (u .running .ports) j) (getD (u .heads) j noMultiplexer .served) (u .running .frame) (u .slot) f ≡ false

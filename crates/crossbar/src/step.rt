@@ -4,7 +4,9 @@ ghost use mathlib.Core.Path.{_≡_};
 ghost use Prim.Native.Nat.{_+_, _≤_};
 ghost use lib.ListN.{length};
 ghost use Rattle.plan.specs.Range.{mostPorts};
-ghost use Rattle.crossbar.specs.Step.{ruling, ChosenAs, choicesByRows, choicesByColumns, slotReply, refusedReply, CanRun, Steps};
+ghost use Rattle.refusal.specs.declared.Verdict.the-variants.{Accepted};
+ghost use Rattle.crossbar.specs.Takeover.{takeoverOf};
+ghost use Rattle.crossbar.specs.Step.{ruling, ChosenAs, choicesByRows, choicesByColumns, slotReply, refusedReply, CanRun, Steps, IdlesOnly};
 use crate::state::SlotReply;
 use crate::state::Switch;
 use crate::valid::store_fits;
@@ -124,7 +126,8 @@ impl Switch {
 
     // One slot: the takeover of a waiting plan, the choices of all ports, the moves, the sends, and the slot's end.
     pub fn step(self, store: &[u32]) -> SlotReply
-        ensures { λ r. ⌜ Steps self (now (store .entry)) r ⌝ }
+        ensures defined { λ r. ⌜ Steps self (now (store .entry)) r ⌝ }
+        ensures idles { λ r. ⌜ (r .verdict ≡ Accepted → IdlesOnly (takeoverOf self) r) ⌝ }
     {
         if !self.is_valid() {
             return self.refused_step(Refusal::StateInvalid);

@@ -11,7 +11,7 @@ slot-record-requires : tie.Need-slot-record-requires
 slot-record-requires c κs = search needs
 
 returns : tie.Need-returns
-returns c = c .slot-record .ensures ∙ ap slotRecord (c .before .step .ensures)
+returns c = c .slot-record .ensures ∙ ap slotRecord (c .before .step .ensures .0)
 
 pub gambyre-step-spec : {M : Type 1} → statement M
 gambyre-step-spec = tie.close (tie.spec step-requires slot-record-requires returns)

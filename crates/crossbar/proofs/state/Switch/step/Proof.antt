@@ -3,14 +3,18 @@ use mathlib.Core.Bool.{Bool, true}
 use mathlib.Core.Path.{_≡_, ap, sym, subst, _∙_}
 use denote.Ref.{now}
 use lib.ListN.{length}
+use Rattle.refusal.specs.declared.Verdict.the-variants.{Accepted}
 use Rattle.plan.proofs.TestLaws.{failed, passed}
 use Rattle.crossbar.specs.State.{storeFits}
 use Rattle.crossbar.specs.Valid.{validOf, IsValid}
 use Rattle.crossbar.specs.Takeover.{takeoverOf}
-use Rattle.crossbar.specs.Step.{choicesByRows, boardChoices, hasRoom, slotReply, ruling, ChosenAs, CanRun}
+use Rattle.crossbar.specs.Step.{choicesByRows, boardChoices, hasRoom, slotReply, stepOf, Steps, IdlesOnly, ruling, ChosenAs, CanRun}
 use Rattle.crossbar.specs.declared.state.Switch.{Switch}
+use Rattle.crossbar.specs.declared.state.SlotReply.{SlotReply}
 use Rattle.crossbar.proofs.ValidLaws.{valid}
 use Rattle.crossbar.proofs.StoreLaws.{store-length}
+use Rattle.crossbar.proofs.OwnedLaws.{owned-sized}
+use Rattle.crossbar.proofs.IdleLaws.{idles-only}
 use Rattle.crossbar.proofs.StepLaws.{takeable, same-ports, choices-before, room-is, can-run, step-invalid, step-misfit, step-full, step-done}
 use Rattle.crossbar.proofs.state.Switch.step.Statement.{statement}
 use Rattle.crossbar.proofs.state.Switch.step.Tie as tie
@@ -43,6 +47,11 @@ chosen c =
 room-test : (c : tie.After-room-for-all) → c .room-for-all .result ≡ hasRoom (takeoverOf (c .before .before .before .before .before .before .before .before .before .before .before .before .before .args .self))
 room-test c = c .room-for-all .ensures ∙ room-is _ (rules (c .before .before .before .before .before .before .before .before .before .before)) _ (chosen (c .before .before .before) .is)
 
+-- an answer as defined is all that the contract asks
+whole : (c : tie.Start) {r : SlotReply} → let a = c .args in r ≡ stepOf (a .self) (now (a .store))
+    → Steps (a .self) (now (a .store)) r × (r .verdict ≡ Accepted → IdlesOnly (takeoverOf (a .self)) r)
+whole c {r} is = (is, idles-only (c .args .self) (now (c .args .store)) r (owned-sized _ _ (c .good .0)) is)
+
 is-valid-requires : tie.Need-is-valid-requires
 is-valid-requires c κs = search needs
 
@@ -50,7 +59,9 @@ refused-step-requires : tie.Need-refused-step-requires
 refused-step-requires c κs = search needs
 
 returns : tie.Need-returns
-returns c = c .refused-step .ensures ∙ step-invalid _ _ (failed (c .before .before .is-valid .ensures) (c .before .if1 .taken))
+returns c =
+    whole (c .before .before .before .before)
+    (c .refused-step .ensures ∙ step-invalid _ _ (failed (c .before .before .is-valid .ensures) (c .before .if1 .taken)))
 
 store-fits-requires : tie.Need-store-fits-requires
 store-fits-requires c κs = let v = rules c in (v .running .few-ports, v .few-places)
@@ -60,8 +71,9 @@ refused-step-requires-2 c κs = search needs
 
 returns-2 : tie.Need-returns-2
 returns-2 c =
-    c .refused-step2 .ensures
-    ∙ step-misfit _ _ (valid-pass (c .before .before .before)) (failed (c .before .before .store-fits .ensures) (c .before .if2 .taken))
+    let c1 = c .before .before .before in
+    whole (c1 .before .before .before)
+    (c .refused-step2 .ensures ∙ step-misfit _ _ (valid-pass c1) (failed (c .before .before .store-fits .ensures) (c .before .if2 .taken)))
 
 takes-over-requires : tie.Need-takes-over-requires
 takes-over-requires c κs = search needs
@@ -80,8 +92,9 @@ refused-step-requires-3 c κs = search needs
 returns-3 : tie.Need-returns-3
 returns-3 c =
     let c2 = c .before .before .before .before .before .before .before .before .before .before in
-    c .refused-step3 .ensures
-    ∙ step-full _ _ (valid-pass (c2 .before .before)) (fits-pass c2) (failed (room-test (c .before .before)) (c .before .if3 .taken))
+    whole (c2 .before .before .before .before .before)
+    (c .refused-step3 .ensures
+    ∙ step-full _ _ (valid-pass (c2 .before .before)) (fits-pass c2) (failed (room-test (c .before .before)) (c .before .if3 .taken)))
 
 taken-over-requires : tie.Need-taken-over-requires
 taken-over-requires c κs = takeable _ (rules (c .before .before .before .before .before .before .before .before .before .before .before))
@@ -100,9 +113,10 @@ returns-4 c =
     let c3 = c .before .before in
     let c2 = c3 .before .before .before .before .before .before .before .before .before in
     let a = c2 .before .before .before .before .before .args in
-    c .run-slot .ensures
+    whole (c2 .before .before .before .before .before)
+    (c .run-slot .ensures
     ∙ ap (λ (u : Switch). slotReply u (now (a .store))) (c .before .taken-over .ensures)
-    ∙ step-done (a .self) (now (a .store)) (valid-pass (c2 .before .before)) (fits-pass c2) (passed (room-test (c3 .before)) (c3 .if3 .left))
+    ∙ step-done (a .self) (now (a .store)) (valid-pass (c2 .before .before)) (fits-pass c2) (passed (room-test (c3 .before)) (c3 .if3 .left)))
 
 pub step-spec : {M : Type 1} → statement M
 step-spec =
