@@ -11,7 +11,7 @@ use Rattle.refusal.specs.declared.Refusal.the-variants.{StateInvalid, StoreLeng
 use Rattle.refusal.specs.declared.Verdict.{Verdict}
 use Rattle.refusal.specs.declared.Refusal.{Refusal}
 use Rattle.refusal.specs.declared.Verdict.the-variants.{Accepted, Refused}
-use Rattle.plan.specs.Range.{mostPorts, mostFlows}
+use Rattle.plan.specs.Range.{mostPorts}
 use Rattle.plan.specs.Desk.{rowOf}
 use Rattle.multiplexer.specs.Choose.{eligibleAt}
 use Rattle.multiplexer.specs.Window.{columnOf}

@@ -5,11 +5,11 @@ use Rattle.multiplexer.specs.declared.Multiplexer.{Multiplexer}
 use Rattle.fabric.specs.declared.flow.Queue.{Queue}
 use Rattle.fabric.specs.declared.flow.Crosspoint.{Crosspoint}
 
--- "The queue depth Q is 1 to 64 cells." Only this file and src/flow.rt have this limit and the next.
+-- "The queue depth Q is 1 to 64 cells." Only this file and src/flow.rt have this limit.
 abbrev pub mostDepth : ℕ
 mostDepth = 64
 
--- "Each crosspoint holds two cells"
+-- "Each crosspoint holds two cells and a count from 0 to 2."
 abbrev pub crosspointDepth : ℕ
 crosspointDepth = 2
 

@@ -7,7 +7,7 @@ use mathlib.Core.List.{List}
 use native.Mathlib.Omega.{arith}
 use lib.Dec.{ltb, eqb}
 use lib.ListN.{length}
-use borrow.Author.Tests.{eq-eqb, not-false}
+use borrow.Author.Tests.{not-false}
 use Rattle.refusal.specs.Chain.{refuseIf}
 use Rattle.refusal.specs.declared.Refusal.{Refusal}
 use Rattle.refusal.specs.declared.Refusal.the-variants.{PortsOutOfRange, FrameOutOfRange, RowAboveFrame, ColumnAboveFrame, NotPlanFile, FileLength}
@@ -16,7 +16,7 @@ use Rattle.refusal.specs.declared.Verdict.the-variants.{Accepted, Refused}
 use Rattle.refusal.proofs.ChainLaws.{refuse-passed}
 use Rattle.plan.specs.Lines.{rowSum, columnSum}
 use Rattle.plan.specs.Range.{portsInRange, frameInRange}
-use Rattle.plan.specs.Accept.{withinFrame, acceptOf, IsPlan}
+use Rattle.plan.specs.Accept.{withinFrame, IsPlan}
 use Rattle.plan.proofs.AcceptLaws.{accepted, sums-decide}
 use Rattle.plan.proofs.LineLaws.{square-small}
 use Rattle.planfile.specs.Layout.{isMarked, versionIn, portsIn, frameIn, fileLength}
