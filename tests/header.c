@@ -25,6 +25,24 @@ static gambyre_switch one_flow(void) {
     return gambyre_start(1, 1, always, 1, 1, store, 1).state;
 }
 
+/* The same made by hand, with the given byte in all that belongs to no port below N, and between the fields. */
+static gambyre_switch one_flow_among(int byte) {
+    const gambyre_switch fresh = one_flow();
+    gambyre_switch state;
+    memset(&state, byte, sizeof state);
+    state.running.ports = fresh.running.ports;
+    state.running.frame = fresh.running.frame;
+    state.running.rates[0] = fresh.running.rates[0];
+    state.waits = fresh.waits;
+    state.depth = fresh.depth;
+    state.slot = fresh.slot;
+    state.queues[0] = fresh.queues[0];
+    state.crosspoints[0].count = fresh.crosspoints[0].count;
+    state.boards[0].served[0] = fresh.boards[0].served[0];
+    state.heads[0].served[0] = fresh.heads[0].served[0];
+    return state;
+}
+
 static int same_plan(const gambyre_plan *a, const gambyre_plan *b) {
     return a->ports == b->ports && a->frame == b->frame && memcmp(a->rates, b->rates, sizeof a->rates) == 0;
 }
@@ -49,6 +67,7 @@ static void refused(const char *what, gambyre_switch state) {
     same(what, arrival.verdict, GAMBYRE_STATE_INVALID);
     same(what, load.verdict, GAMBYRE_STATE_INVALID);
     same(what, step.verdict, GAMBYRE_STATE_INVALID);
+    same(what, gambyre_step(state, NULL, 0).verdict, GAMBYRE_STATE_INVALID);
     same("the state of a refused arrival", same_state(&arrival.state, &state), 1);
     same("the state of a refused load", same_state(&load.state, &state), 1);
     same("the state of a refused step", same_state(&step.state, &state), 1);
@@ -150,9 +169,7 @@ static void hand_made_states(void) {
 /* Every byte of `waits` but 0 says that a plan waits: it is judged, takes over in slot 0 and in no other, and leaves 0. */
 static void bytes_of_waits(void) {
     for (unsigned byte = 0; byte < 256; byte++) {
-        gambyre_switch outside = one_flow();
-        memset(&outside.waiting, 0x5A, sizeof outside.waiting);
-        memset(&outside.queues[1], 0xA5, sizeof outside.queues - sizeof outside.queues[0]);
+        gambyre_switch outside = one_flow_among(0xA5);
         outside.waiting.ports = 3000;
         outside.waiting.frame = 9;
         outside.waits = (uint8_t)byte;
@@ -200,6 +217,8 @@ static void choices(void) {
     same("its flow", choice.flow, 1);
     same("its count", gambyre_count(rested, choice).served[1], 1);
     same("no choice", gambyre_choose(rested, second, 1, 1, 0).kind, GAMBYRE_NO_FLOW);
+    memset(&choice, 0xA5, sizeof choice);
+    choice.flow = 1;
     for (unsigned kind = 0; kind <= 256; kind++) {
         choice.kind = (gambyre_choice_kind)kind;
         same("the count of a kind", gambyre_count(rested, choice).served[1], kind != GAMBYRE_NO_FLOW);

@@ -22,17 +22,19 @@ has() {
 need "the Rattle kit, which is no Debian package; see README.md" rt
 need "package gcc" gcc
 need "package g++" g++
-need "package rustc" rustc
+need "1.73 or newer: package rustc of Debian 13, or rustup.rs" rustc
 need "package pkg-config" pkg-config
 need "package mawk" awk
 need "package sed" sed
 need "package grep" grep
 need "package diffutils" diff cmp
-need "package coreutils" cat chmod comm cp head install mkdir mktemp od realpath rm sleep stat tail tee wc
+need "package findutils" find
+need "package coreutils" cat chmod comm cp date head install mkdir mktemp od readlink realpath rm sha256sum sleep sort stat \
+    tail tee wc
 
 # The oldest rustc that has all that the tests use is 1.73.
 if has rustc && ! [[ $(rustc --version) =~ ^rustc\ 1\.(7[3-9]|[89][0-9]|[1-9][0-9][0-9]) ]]; then
-    missing+=("rustc 1.73 or newer (package rustc of Debian 13, or rustup.rs; here is $(rustc --version))")
+    missing+=("rustc (1.73 or newer: package rustc of Debian 13, or rustup.rs; here is $(rustc --version))")
 fi
 
 # links COMPILER FLAG..: whether an empty program can be built.
