@@ -267,8 +267,8 @@ GAMBYRE_MUST_USE gambyre_reply gambyre_load(gambyre_switch state, size_t n, uint
 /*
  * Runs the slot state.slot: in slot 0 a waiting plan takes over; all ports choose; each board moves the oldest cell of
  * the queue it chose to the crosspoint; then each head takes the oldest cell of the crosspoint it chose, also one that
- * was moved in this slot. Answers the next state and what each port did. A port below N is idle only if none of its
- * flows is eligible, as gambyre_choose says.
+ * was moved in this slot. Answers the next state and what each port did. In an accepted step a port below N is idle
+ * only if none of its flows is eligible (see gambyre_choose).
  * Refusals, in this order: 12, 7, 13. A refused call returns the state that it was given, so `state = reply.state` is
  * right after any call; all its ports are idle. A state that came from an accepted start by these calls, with its store
  * left alone, never gets 12 or 13.

@@ -57,10 +57,11 @@ awk '
     type != "" {
         split($0, part, ";")
         sub(/\[.*/, "", part[1])
-        words = split(part[1], word, " ")
+        field = word[split(part[1], word, " ")]
         if (part[2] !~ /^ +\/\* +[0-9]+ /) { print "no offset in the header: " $0 > "/dev/stderr"; exit 1 }
         split(part[2], comment, " ")
-        printf "typedef char offset_of_%s_%s[offsetof(%s, %s) == %s ? 1 : -1];\n", type, word[words], type, word[words], comment[2]
+        printf "typedef char offset_of_%s_%s", type, field
+        printf "[offsetof(%s, %s) == %s ? 1 : -1];\n", type, field, comment[2]
         fields++
     }
     END { if (fields == 0) exit 1 }

@@ -49,14 +49,8 @@ pub struct Choice {
 pub trait Operations {
     fn version() -> u32;
     fn accept(ports: usize, frame: u32, rates: &[u16]) -> u32;
-    fn desk_view(
-        running: &[u16],
-        waiting: &[u16],
-        ports: usize,
-        input: usize,
-        takeover: u32,
-        out: &mut [u16],
-    ) -> usize;
+    fn desk_view(running: &[u16], waiting: &[u16], ports: usize, input: usize, takeover: u32, out: &mut [u16])
+        -> usize;
     fn scale(ports: usize, frame: u32, demands: &[u16], rates: &mut [u16]) -> u32;
     fn boost(ports: usize, frame: u32, given: &[u16], rates: &mut [u16]) -> u32;
     fn read(bytes: &[u8]) -> Reading;

@@ -6,23 +6,23 @@ cd "$(dirname "$0")/.."
 
 missing=()
 
-# need PACKAGE PROGRAM..
-need() {
-    local package=$1 program
-    shift
-    for program in "$@"; do
-        has "$program" || missing+=("$program ($package)")
-    done
-}
-
 has() {
     command -v "$1" >/dev/null
+}
+
+# need SOURCE PROGRAM..
+need() {
+    local source=$1 program
+    shift
+    for program in "$@"; do
+        has "$program" || missing+=("$program ($source)")
+    done
 }
 
 need "the Rattle kit, which is no Debian package; see README.md" rt
 need "package gcc" gcc
 need "package g++" g++
-need "1.73 or newer: package rustc of Debian 13, or rustup.rs" rustc
+need "package rustc of Debian 13, or rustup.rs" rustc
 need "package pkg-config" pkg-config
 need "package mawk" awk
 need "package sed" sed
@@ -34,7 +34,7 @@ need "package coreutils" cat chmod comm cp date head install mkdir mktemp od rea
 
 # The oldest rustc that has all that the tests use is 1.73.
 if has rustc && ! [[ $(rustc --version) =~ ^rustc\ 1\.(7[3-9]|[89][0-9]|[1-9][0-9][0-9]) ]]; then
-    missing+=("rustc (1.73 or newer: package rustc of Debian 13, or rustup.rs; here is $(rustc --version))")
+    missing+=("rustc 1.73 or newer (package rustc of Debian 13, or rustup.rs); this one is $(rustc --version)")
 fi
 
 # links COMPILER FLAG..: whether an empty program can be built.
