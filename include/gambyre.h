@@ -241,8 +241,8 @@ GAMBYRE_MUST_USE uint32_t gambyre_version(void);
 /*
  * Starts a switch of n ports with a plan of t slots and queues of `depth` cells. The store (n * n * depth numbers)
  * may hold anything; it is not written. Answers the state: all queues and crosspoints empty, slot 0, no plan waits.
- * Refusals, in this order: 1, 2, 3, 4, 5, 6, 7. A refused call returns a state that is all 0, which every other call
- * refuses with 12.
+ * Refusals, in this order: 1, 2, 3, 4, 5, 6, 7. A refused call returns a state that is all 0, which arrive, load and
+ * step refuse with 12.
  */
 GAMBYRE_MUST_USE gambyre_reply gambyre_start(size_t n, uint32_t t, const uint16_t *rates, size_t rates_len,
                                              size_t depth, const uint32_t *store, size_t store_len);
