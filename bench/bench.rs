@@ -101,7 +101,7 @@ fn fill_queues(state: &mut Switch) {
 fn proved_slots(state: &mut Switch, store: &[u32], slots: u32) {
     for _ in 0..slots {
         let reply = Library::step(black_box(state), black_box(store));
-        black_box((&reply.verdict, &reply.boards, &reply.heads));
+        black_box((&reply.verdict, &reply.moves, &reply.sends));
         *state = reply.state;
     }
 }

@@ -4,11 +4,10 @@
  * how many cells stand at its crosspoint.
  *
  *     rt staticlib gambyre
- *     gcc -std=c99 -Wall -Wextra -Werror -O2 -I include examples/label_press.c target/staticlib/libgambyre.a \
- *         -o target/label_press
+ *     gcc -std=c99 -Wall -Wextra -O2 -I include examples/label_press.c target/staticlib/libgambyre.a -o target/label_press
  *     target/label_press
  *
- * examples/label_press.txt has what it prints.
+ * examples/label_press.txt has what it prints. It compiles as C++, too.
  */
 #include "gambyre.h"
 
@@ -28,28 +27,28 @@ static gambyre_switch state;
 static uint32_t store[N * N * Q];
 
 /* Stops at a verdict that this host did not count on. */
-static void expect(const char *call, uint8_t verdict, uint8_t expected) {
+static void expect(const char *call, gambyre_verdict verdict, gambyre_verdict expected) {
     if (verdict != expected) {
-        printf("%s: verdict %d, expected %d\n", call, verdict, expected);
+        printf("%s: %s; expected: %s\n", call, gambyre_verdict_text(verdict), gambyre_verdict_text(expected));
         exit(EXIT_FAILURE);
     }
 }
 
 static void start(void) {
+    if (gambyre_version() != GAMBYRE_VERSION_NUMBER) {
+        printf("libgambyre.a is not of the header's version, %s\n", GAMBYRE_VERSION);
+        exit(EXIT_FAILURE);
+    }
     gambyre_reply reply = gambyre_start(N, T, rates, N * N, Q, store, N * N * Q);
     expect("start", reply.verdict, GAMBYRE_ACCEPTED);
     state = reply.state;
 }
 
-/* A refused arrival hands the state back as it was, so the host goes on with it in either case. */
-static uint8_t arrive(uint32_t cell) {
+/* A refused arrival returns the state that it was given, so the host goes on with what comes back in either case. */
+static gambyre_verdict arrive(uint32_t cell) {
     gambyre_reply reply = gambyre_arrive(state, store, N * N * Q, BOARD, HEAD, cell);
     state = reply.state;
-    if (reply.verdict == GAMBYRE_ACCEPTED) {
-        printf("cell %u queued\n", (unsigned)cell);
-    } else {
-        printf("cell %u refused, number %d\n", (unsigned)cell, reply.verdict);
-    }
+    printf("cell %u: %s\n", (unsigned)cell, gambyre_verdict_text(reply.verdict));
     return reply.verdict;
 }
 

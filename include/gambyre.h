@@ -1,29 +1,30 @@
 /*
- * Gambyre: the cell switch of a digital label press. C99 header of libgambyre.a, for x86-64 Linux.
+ * Gambyre: the cell switch of a digital label press. Header of libgambyre.a for C99, C++11 and later, on x86-64 Linux.
  *
  * N boards (inputs) feed N print heads (outputs), both numbered from 0. A flow is a pair (board i, head j). A
  * cell is any 32-bit number; the switch carries it and never looks at it. Time goes in slots, T of them to a frame. A
  * plan has a rate for each flow: so many of the frame's T slots are the flow's. Each flow has a queue of up to Q
  * cells, and a crosspoint of up to two cells between its board and its head.
  *
- *     N   1 to 16     ports of a side
- *     T   1 to 4096   slots of a frame
- *     Q   1 to 64     cells of a queue (`depth` below)
+ *     N   1 to 16     GAMBYRE_MOST_PORTS   ports of a side
+ *     T   1 to 4096   GAMBYRE_MOST_SLOTS   slots of a frame
+ *     Q   1 to 64     GAMBYRE_MOST_DEPTH   cells of a queue (`depth` below)
  *
  * Flow (i, j) has number i * N + j: its rate stands at that place of a list of N * N rates (row by row, a row for each
  * board), and so do its queue and its crosspoint in the state.
  *
- * Every call takes every input. What it can't do it refuses with a number (below), and a refused call changes nothing:
- * state, store and written lists are as they were. For each call it is proved that its whole outcome is what the
- * definition in the project's specs/ says; docs/PROOF.md has what follows for the press.
+ * Every call takes every input, and a record may hold any number in any field. What a call can't do it refuses with
+ * a verdict (below), and a refused call changes nothing: state, store and written lists are as they were. For each call
+ * it is proved that its whole outcome is what the definition in the project's specs/ says; docs/PROOF.md has what
+ * follows for the press.
  *
  * MEMORY
  *   - The caller owns everything. The library allocates nothing, keeps nothing between calls and has no global
  *     state; it needs memcpy and memset, and no other symbol.
  *   - A state (gambyre_switch) goes in by value and the next one comes back by value. Go on with that one.
- *   - A list is lent for the time of the call, as a pointer and then its length in elements (not in bytes). A const list
- *     is only read. A pointer must be aligned for its elements and must not be NULL; where the length is 0, pass any
- *     other valid pointer.
+ *   - A list is lent for the time of the call, as a pointer and then its length in elements (not in bytes). A const
+ *     list is only read. A pointer must be aligned for its elements. Where the length is 0 the pointer is not used,
+ *     and may be NULL.
  *   - A list that is written (not const) must not overlap any other list of the same call. Lists that are only read
  *     may be the same memory.
  *   - Between an accepted start and the last call on its state, the store belongs to the queues: write it only by
@@ -38,80 +39,131 @@
 #ifndef GAMBYRE_H
 #define GAMBYRE_H
 
-#include <stdbool.h>
+#if !defined(__x86_64__) || !defined(__linux__) || defined(__ILP32__)
+#error "gambyre.h: libgambyre.a is built for x86-64 Linux with 64-bit pointers; this compiler builds for something else"
+#endif
+
 #include <stddef.h>
 #include <stdint.h>
+
+/* The version of this header. The archive is of the same one if gambyre_version() == GAMBYRE_VERSION_NUMBER. */
+#define GAMBYRE_VERSION "0.9.0"
+#define GAMBYRE_VERSION_MAJOR 0
+#define GAMBYRE_VERSION_MINOR 9
+#define GAMBYRE_VERSION_PATCH 0
+#define GAMBYRE_VERSION_NUMBER (GAMBYRE_VERSION_MAJOR * 10000 + GAMBYRE_VERSION_MINOR * 100 + GAMBYRE_VERSION_PATCH)
+
+/* The compiler warns where an answer is dropped: it has the next state, and says whether a cell was taken. */
+#if defined(__GNUC__)
+#define GAMBYRE_MUST_USE __attribute__((warn_unused_result))
+#elif (defined(__cplusplus) && __cplusplus >= 201703L) || (defined(__STDC_VERSION__) && __STDC_VERSION__ >= 202311L)
+#define GAMBYRE_MUST_USE [[nodiscard]]
+#else
+#define GAMBYRE_MUST_USE
+#endif
+
+/* An enum has 32 bits, and every number of 32 bits is a value of it. C++ and C23 can say so; for C99 see the sizes. */
+#if defined(__cplusplus) || (defined(__STDC_VERSION__) && __STDC_VERSION__ >= 202311L)
+#define GAMBYRE_32_BITS : uint32_t
+#else
+#define GAMBYRE_32_BITS
+#endif
 
 #ifdef __cplusplus
 extern "C" {
 #endif
 
+/* The largest values. */
 enum {
-    GAMBYRE_MOST_PORTS = 16, /* of a side */
-    GAMBYRE_MOST_FLOWS = 256
+    GAMBYRE_MOST_PORTS = 16,    /* N, of a side */
+    GAMBYRE_MOST_FLOWS = 256,   /* N * N */
+    GAMBYRE_MOST_SLOTS = 4096,  /* T, of a frame */
+    GAMBYRE_MOST_DEPTH = 64,    /* Q, cells of a queue */
+    GAMBYRE_MOST_STORE = 16384, /* N * N * Q, numbers of a store */
+    GAMBYRE_MOST_FILE = 520     /* 8 + 2 * N * N, bytes of a plan file */
 };
 
-/* What a call answers as its verdict. With more than one condition true, the order given at the call decides. */
-enum {
-    GAMBYRE_ACCEPTED = 0,
-    GAMBYRE_PORTS_OUT_OF_RANGE = 1,  /* N is outside 1 to 16 */
-    GAMBYRE_FRAME_OUT_OF_RANGE = 2,  /* T is outside 1 to 4096 */
-    GAMBYRE_LIST_LENGTH = 3,         /* a rate, demand or output list is not N * N long */
-    GAMBYRE_ROW_ABOVE_FRAME = 4,     /* the rates of a board add up to more than T */
-    GAMBYRE_COLUMN_ABOVE_FRAME = 5,  /* the rates of a head add up to more than T */
-    GAMBYRE_DEPTH_OUT_OF_RANGE = 6,  /* Q is outside 1 to 64 */
-    GAMBYRE_STORE_LENGTH = 7,        /* the store is not N * N * Q long */
-    GAMBYRE_PLAN_MISMATCH = 8,       /* a loaded plan has another N or T than the running one */
-    GAMBYRE_PLAN_WAITS = 9,          /* a plan already waits */
-    GAMBYRE_NO_SUCH_PORT = 10,       /* an arrival for a port that is not below N */
-    GAMBYRE_QUEUE_FULL = 11,         /* the flow's queue holds Q cells */
-    GAMBYRE_STATE_INVALID = 12,      /* the state breaks a rule, see gambyre_switch */
-    GAMBYRE_CROSSPOINT_FULL = 13,    /* a step would put a third cell in a crosspoint */
-    GAMBYRE_NOT_PLAN_FILE = 14,      /* the mark is not LSP or the version is not 1 */
-    GAMBYRE_FILE_LENGTH = 15         /* the file is under 8 bytes, or not 8 + 2 * N * N */
-};
+/*
+ * The verdicts: name, number and text. Of several refusals that are due, the first in the order given at the call is
+ * answered. gambyre_verdict and gambyre_verdict_text are made of this list.
+ */
+#define GAMBYRE_VERDICTS(VERDICT)                                                                   \
+    VERDICT(GAMBYRE_ACCEPTED, 0, "accepted")                                                        \
+    VERDICT(GAMBYRE_PORTS_OUT_OF_RANGE, 1, "N is outside 1 to 16")                                  \
+    VERDICT(GAMBYRE_FRAME_OUT_OF_RANGE, 2, "T is outside 1 to 4096")                                \
+    VERDICT(GAMBYRE_LIST_LENGTH, 3, "a rate, demand or output list is not N * N long")              \
+    VERDICT(GAMBYRE_ROW_ABOVE_FRAME, 4, "the rates of a board add up to more than T")               \
+    VERDICT(GAMBYRE_COLUMN_ABOVE_FRAME, 5, "the rates of a head add up to more than T")             \
+    VERDICT(GAMBYRE_DEPTH_OUT_OF_RANGE, 6, "Q is outside 1 to 64")                                  \
+    VERDICT(GAMBYRE_STORE_LENGTH, 7, "the store is not N * N * Q long")                             \
+    VERDICT(GAMBYRE_PLAN_MISMATCH, 8, "the loaded plan has another N or T than the running one")    \
+    VERDICT(GAMBYRE_PLAN_WAITS, 9, "a plan already waits")                                          \
+    VERDICT(GAMBYRE_NO_SUCH_PORT, 10, "the arrival is for a port that is not below N")              \
+    VERDICT(GAMBYRE_QUEUE_FULL, 11, "the flow's queue holds Q cells")                               \
+    VERDICT(GAMBYRE_STATE_INVALID, 12, "the state breaks a rule of gambyre_switch")                 \
+    VERDICT(GAMBYRE_CROSSPOINT_FULL, 13, "the step would put a third cell in a crosspoint")         \
+    VERDICT(GAMBYRE_NOT_PLAN_FILE, 14, "the file's mark is not LSP or its version is not 1")        \
+    VERDICT(GAMBYRE_FILE_LENGTH, 15, "the file has under 8 bytes, or not 8 + 2 * N * N")
 
-/* What a port did in a slot: gambyre_port.kind */
-enum {
-    GAMBYRE_IDLE = 0,  /* no flow was eligible */
+/* What a call answers: that it was accepted, or why it was refused. */
+typedef enum gambyre_verdict GAMBYRE_32_BITS {
+#define GAMBYRE_NAME(name, number, text) name = number,
+    GAMBYRE_VERDICTS(GAMBYRE_NAME)
+#undef GAMBYRE_NAME
+} gambyre_verdict;
+
+/* The text of a verdict, "not a verdict" for any other number. */
+static inline const char *gambyre_verdict_text(gambyre_verdict verdict) {
+    const uint32_t answered = verdict;
+    switch (answered) {
+#define GAMBYRE_TEXT(name, number, text) case number: return text;
+        GAMBYRE_VERDICTS(GAMBYRE_TEXT)
+#undef GAMBYRE_TEXT
+        default: return "not a verdict";
+    }
+}
+
+/* What a port did in a slot. */
+typedef enum gambyre_port_kind GAMBYRE_32_BITS {
+    GAMBYRE_IDLE = 0,  /* it served nobody */
     GAMBYRE_EMPTY = 1, /* it served `other`, and there was no cell */
     GAMBYRE_MOVED = 2  /* a board: `cell` went to the crosspoint with `other`; a head: it came from there */
-};
+} gambyre_port_kind;
 
-/* What a multiplexer chose: gambyre_choice.kind */
-enum {
+/* Whether a multiplexer chose a flow. */
+typedef enum gambyre_choice_kind GAMBYRE_32_BITS {
     GAMBYRE_NO_FLOW = 0,
     GAMBYRE_FLOW = 1
-};
+} gambyre_choice_kind;
 
 /* The records. The number before a field is its offset in bytes. */
 
-/* A plan. The first N * N rates are the plan's; what stands behind them is no part of it. 528 bytes. */
+/* A plan. The first N * N rates are the plan's; what stands behind them is no part of it. */
 typedef struct gambyre_plan {
     size_t ports;                       /*  0  N */
     uint32_t frame;                     /*  8  T */
     uint16_t rates[GAMBYRE_MOST_FLOWS]; /* 12 */
 } gambyre_plan;
 
-/* How often a port served each port of the other side in this frame. 32 bytes. */
+/* How often a port served each port of the other side in this frame. */
 typedef struct gambyre_multiplexer {
-    uint16_t served[GAMBYRE_MOST_PORTS];
+    uint16_t served[GAMBYRE_MOST_PORTS]; /* 0 */
 } gambyre_multiplexer;
 
-/* A queue, a ring in the flow's Q places of the store, which begin at (i * N + j) * Q. 2 bytes. */
+/* A queue, a ring in the flow's Q places of the store, which begin at (i * N + j) * Q. */
 typedef struct gambyre_queue {
     uint8_t place; /* 0  of the oldest cell among the Q */
     uint8_t count; /* 1  of cells */
 } gambyre_queue;
 
-/* A crosspoint; the oldest cell comes first. 12 bytes. */
+/* A crosspoint; the oldest cell comes first. */
 typedef struct gambyre_crosspoint {
     uint32_t cells[2]; /* 0 */
     uint8_t count;     /* 8  of cells */
 } gambyre_crosspoint;
 
 /*
- * The state of a switch. 5688 bytes. It may be read at any time, stored, and made by hand: a state is refused with
+ * The state of a switch. It may be read at any time, stored, and made by hand: a state is refused with
  * GAMBYRE_STATE_INVALID if
  *   - its running plan is not accepted; or a plan waits and the waiting plan is not, or has another N or T;
  *   - depth is outside 1 to 64, or slot is not below T;
@@ -131,41 +183,44 @@ typedef struct gambyre_switch {
     gambyre_multiplexer heads[GAMBYRE_MOST_PORTS];      /* 5172  by head: its services, by board */
 } gambyre_switch;
 
-/* What start, arrive and load answer. 5696 bytes. */
+/* What start, arrive and load answer. */
 typedef struct gambyre_reply {
-    uint8_t verdict;      /* 0  GAMBYRE_ACCEPTED or a refusal */
-    gambyre_switch state; /* 8 */
+    gambyre_verdict verdict; /* 0 */
+    gambyre_switch state;    /* 8 */
 } gambyre_reply;
 
-/* What a port did in a slot. A field that the kind does not have is 0. 24 bytes. */
+/* What a port did in a slot. A field that the kind does not have is 0. */
 typedef struct gambyre_port {
-    uint8_t kind;  /*  0  GAMBYRE_IDLE, _EMPTY or _MOVED */
-    size_t other;  /*  8  the head that a board served, or the board that a head served */
-    uint32_t cell; /* 16 */
+    gambyre_port_kind kind; /*  0 */
+    size_t other;           /*  8  the head that a board served, or the board that a head served */
+    uint32_t cell;          /* 16 */
 } gambyre_port;
 
-/* What a step answers. Ports from N up, and all ports of a refused step, are idle. 6464 bytes. */
+/* What a step answers. Ports from N up, and all ports of a refused step, are idle. */
 typedef struct gambyre_slot_reply {
-    uint8_t verdict;                        /*    0 */
+    gambyre_verdict verdict;                /*    0 */
     gambyre_switch state;                   /*    8 */
     gambyre_port moves[GAMBYRE_MOST_PORTS]; /* 5696  by board */
     gambyre_port sends[GAMBYRE_MOST_PORTS]; /* 6080  by head */
 } gambyre_slot_reply;
 
-/* What the plan file's reader answers. 536 bytes. */
+/* What the plan file's reader answers. */
 typedef struct gambyre_reading {
-    uint8_t verdict;   /* 0 */
-    gambyre_plan plan; /* 8  with 0 behind its rates; all 0 where the file is refused */
+    gambyre_verdict verdict; /* 0 */
+    gambyre_plan plan;       /* 8  with 0 behind its rates; all 0 where the file is refused */
 } gambyre_reading;
 
-/* What a multiplexer chose. 16 bytes. */
+/* What a multiplexer chose. */
 typedef struct gambyre_choice {
-    uint8_t kind; /* 0  GAMBYRE_NO_FLOW or _FLOW */
-    size_t flow;  /* 8  the other port's number; 0 where there is none */
+    gambyre_choice_kind kind; /* 0  handed over, every number but GAMBYRE_NO_FLOW is a flow */
+    size_t flow;              /* 8  the other port's number; 0 where there is none */
 } gambyre_choice;
 
 /* The library was built for these sizes; a compiler that lays the records out in another way stops here. */
 #define GAMBYRE_HAS_SIZE(type, bytes) typedef char type##_has_size[sizeof(type) == (bytes) ? 1 : -1]
+GAMBYRE_HAS_SIZE(gambyre_verdict, 4);
+GAMBYRE_HAS_SIZE(gambyre_port_kind, 4);
+GAMBYRE_HAS_SIZE(gambyre_choice_kind, 4);
 GAMBYRE_HAS_SIZE(gambyre_plan, 528);
 GAMBYRE_HAS_SIZE(gambyre_multiplexer, 32);
 GAMBYRE_HAS_SIZE(gambyre_queue, 2);
@@ -178,91 +233,101 @@ GAMBYRE_HAS_SIZE(gambyre_reading, 536);
 GAMBYRE_HAS_SIZE(gambyre_choice, 16);
 #undef GAMBYRE_HAS_SIZE
 
+/* The version of the archive, as GAMBYRE_VERSION_NUMBER. */
+GAMBYRE_MUST_USE uint32_t gambyre_version(void);
+
 /* THE SWITCH */
 
 /*
  * Starts a switch of n ports with a plan of t slots and queues of `depth` cells. The store (n * n * depth numbers)
- * may hold anything; it is not written. Answers the state: all queues and crosspoints empty, slot 0, no plan waits. The
- * state of a refused start is all 0.
- * Refusals, in this order: 1, 2, 3, 4, 5, 6, 7.
+ * may hold anything; it is not written. Answers the state: all queues and crosspoints empty, slot 0, no plan waits.
+ * Refusals, in this order: 1, 2, 3, 4, 5, 6, 7. A refused call returns a state that is all 0, which arrive, load and
+ * step refuse with 12.
  */
-gambyre_reply gambyre_start(size_t n, uint32_t t, const uint16_t *rates, size_t rates_len, size_t depth,
-                            const uint32_t *store, size_t store_len);
+GAMBYRE_MUST_USE gambyre_reply gambyre_start(size_t n, uint32_t t, const uint16_t *rates, size_t rates_len,
+                                             size_t depth, const uint32_t *store, size_t store_len);
 
 /*
  * Puts a cell of board i for head j into its queue: writes one place of the store, and counts it in the state. Between
  * two steps any number of cells may arrive.
- * Refusals, in this order: 12, 7, 10, 11.
+ * Refusals, in this order: 12, 7, 10, 11. A refused call returns the state that it was given, so `state = reply.state`
+ * is right after any call; the host still has the cell.
  */
-gambyre_reply gambyre_arrive(gambyre_switch state, uint32_t *store, size_t store_len, size_t i, size_t j, uint32_t cell);
+GAMBYRE_MUST_USE gambyre_reply gambyre_arrive(gambyre_switch state, uint32_t *store, size_t store_len, size_t i,
+                                              size_t j, uint32_t cell);
 
 /*
  * Puts a plan in waiting. It takes over in the next slot 0, and must have the running plan's N and T.
- * Refusals, in this order: 12, 1, 2, 3, 4, 5, 8, 9.
+ * Refusals, in this order: 12, 1, 2, 3, 4, 5, 8, 9. A refused call returns the state that it was given, so
+ * `state = reply.state` is right after any call.
  */
-gambyre_reply gambyre_load(gambyre_switch state, size_t n, uint32_t t, const uint16_t *rates, size_t rates_len);
+GAMBYRE_MUST_USE gambyre_reply gambyre_load(gambyre_switch state, size_t n, uint32_t t, const uint16_t *rates,
+                                            size_t rates_len);
 
 /*
  * Runs the slot state.slot: in slot 0 a waiting plan takes over; all ports choose; each board moves the oldest cell of
  * the queue it chose to the crosspoint; then each head takes the oldest cell of the crosspoint it chose, also one that
- * was moved in this slot. Answers the next state and what each port did.
- * Refusals, in this order: 12, 7, 13. A state that came from an accepted start by these calls, with its store left
- * alone, never gets 12 or 13.
+ * was moved in this slot. Answers the next state and what each port did. In an accepted step a port below N is idle
+ * only if none of its flows is eligible (see gambyre_choose).
+ * Refusals, in this order: 12, 7, 13. A refused call returns the state that it was given, so `state = reply.state` is
+ * right after any call; all its ports are idle. A state that came from an accepted start by these calls, with its store
+ * left alone, never gets 12 or 13.
  */
-gambyre_slot_reply gambyre_step(gambyre_switch state, const uint32_t *store, size_t store_len);
+GAMBYRE_MUST_USE gambyre_slot_reply gambyre_step(gambyre_switch state, const uint32_t *store, size_t store_len);
 
 /* PLANS */
 
 /* Whether a plan is accepted. Refusals, in this order: 1, 2, 3, 4, 5. */
-uint8_t gambyre_accept(size_t n, uint32_t t, const uint16_t *rates, size_t rates_len);
+GAMBYRE_MUST_USE gambyre_verdict gambyre_accept(size_t n, uint32_t t, const uint16_t *rates, size_t rates_len);
 
 /*
- * The rates of board i in the plan that rules the coming slot: the waiting one if `takeover`, else the running one.
- * Copies them to `out`, as many as it takes, leaves the rest of `out` as it is, and answers how many there are: n, or
- * 0 where n or i is out of range or either list is not n * n long.
+ * The rates of board i in the plan that rules the coming slot: the running one if `takeover` is 0, else the waiting
+ * one. Copies them to `out`, as many as it takes, leaves the rest of `out` as it is, and answers how many there are: n,
+ * or 0 where n or i is out of range or either list is not n * n long.
  */
-size_t gambyre_desk_view(const uint16_t *running, size_t running_len, const uint16_t *waiting, size_t waiting_len,
-                         size_t n, size_t i, bool takeover, uint16_t *out, size_t out_len);
+GAMBYRE_MUST_USE size_t gambyre_desk_view(const uint16_t *running, size_t running_len, const uint16_t *waiting,
+                                          size_t waiting_len, size_t n, size_t i, uint32_t takeover, uint16_t *out,
+                                          size_t out_len);
 
 /*
  * Writes rates in proportion to the demands: demand * t / the larger of its row and column sum, rounded down. They are
- * an accepted plan, whatever the demands. A refused call writes nothing.
- * Refusals, in this order: 1, 2, 3.
+ * an accepted plan, whatever the demands.
+ * Refusals, in this order: 1, 2, 3. A refused call writes nothing.
  */
-uint8_t gambyre_scale(size_t n, uint32_t t, const uint16_t *demands, size_t demands_len, uint16_t *rates,
-                      size_t rates_len);
+GAMBYRE_MUST_USE gambyre_verdict gambyre_scale(size_t n, uint32_t t, const uint16_t *demands, size_t demands_len,
+                                               uint16_t *rates, size_t rates_len);
 
 /*
- * Writes the given plan with its spare slots given out, so that every row and every column adds up to t. A refused call
- * writes nothing.
- * Refusals, in this order: 1, 2, 3, 4, 5.
+ * Writes the given plan with its spare slots given out, so that every row and every column adds up to t.
+ * Refusals, in this order: 1, 2, 3, 4, 5. A refused call writes nothing.
  */
-uint8_t gambyre_boost(size_t n, uint32_t t, const uint16_t *given, size_t given_len, uint16_t *rates, size_t rates_len);
+GAMBYRE_MUST_USE gambyre_verdict gambyre_boost(size_t n, uint32_t t, const uint16_t *given, size_t given_len,
+                                               uint16_t *rates, size_t rates_len);
 
 /*
  * Reads a plan file: "LSP", version 1 (16 bits), N (8 bits), T (16 bits), N * N rates (16 bits each), low byte first.
- * Refusals, in this order: 15 (under 8 bytes), 14, 1, 2, 15, 4, 5.
+ * Refusals, in this order: 15 (under 8 bytes), 14, 1, 2, 15, 4, 5. A refused call returns a plan that is all 0.
  */
-gambyre_reading gambyre_read(const uint8_t *bytes, size_t bytes_len);
+GAMBYRE_MUST_USE gambyre_reading gambyre_read(const uint8_t *bytes, size_t bytes_len);
 
-/* ONE PORT. The switch calls these for each of its ports; they refuse nothing. */
+/* ONE PORT. The switch does these for each of its ports; they refuse nothing. */
 
 /*
  * The choice of a port in a slot of a frame. A flow of rate a > 0 that was served k times is eligible if
  * k * frame <= slot * a. The slot goes to the eligible flow with the smallest deadline, (k + 1) * frame / a rounded
  * up, and of equal ones to the lowest number. Only the first 16 rates count.
  */
-gambyre_choice gambyre_choose(gambyre_multiplexer multiplexer, const uint16_t *rates, size_t rates_len, uint32_t frame,
-                              uint32_t slot);
+GAMBYRE_MUST_USE gambyre_choice gambyre_choose(gambyre_multiplexer multiplexer, const uint16_t *rates, size_t rates_len,
+                                               uint32_t frame, uint32_t slot);
 
 /*
- * Counts one service of the chosen flow. Every kind but GAMBYRE_NO_FLOW is a flow. A count of 65535 stays, and a flow
- * past 15 changes nothing.
+ * Counts one service of the chosen flow, and none for GAMBYRE_NO_FLOW. A count of 65535 stays, and a flow past 15
+ * changes nothing.
  */
-gambyre_multiplexer gambyre_count(gambyre_multiplexer multiplexer, gambyre_choice choice);
+GAMBYRE_MUST_USE gambyre_multiplexer gambyre_count(gambyre_multiplexer multiplexer, gambyre_choice choice);
 
 /* The end of a frame: the counts of the first n flows, 16 at most, return to 0. */
-gambyre_multiplexer gambyre_end_frame(gambyre_multiplexer multiplexer, size_t n);
+GAMBYRE_MUST_USE gambyre_multiplexer gambyre_end_frame(gambyre_multiplexer multiplexer, size_t n);
 
 #ifdef __cplusplus
 }

@@ -53,12 +53,12 @@ pub fn c3_crossing_fills<S: Operations>() {
         }
         let reply = S::step(&state, &store);
         assert_eq!(reply.verdict, 0, "C3");
-        if reply.boards[2].kind != 0 && reply.boards[2].other == 1 {
+        if reply.moves[2].kind != 0 && reply.moves[2].other == 1 {
             board_slots.push(slot);
         }
-        if reply.heads[1].kind != 0 && reply.heads[1].other == 2 {
+        if reply.sends[1].kind != 0 && reply.sends[1].other == 2 {
             head_slots.push(slot);
-            if reply.heads[1].kind == 1 {
+            if reply.sends[1].kind == 1 {
                 empty_slots.push(slot);
             }
         }
@@ -90,7 +90,7 @@ pub fn c6_one_flow<S: Operations>() {
     for _ in 0..5 {
         let reply = S::step(&state, &store);
         let served_in_vain = PortReply { kind: 1, other: 0, cell: 0 };
-        assert_eq!((reply.verdict, reply.boards[0], reply.heads[0]), (0, served_in_vain, served_in_vain), "C6");
+        assert_eq!((reply.verdict, reply.moves[0], reply.sends[0]), (0, served_in_vain, served_in_vain), "C6");
         state = reply.state;
     }
 }
@@ -102,7 +102,7 @@ pub fn c7_no_rates<S: Operations>() {
     for _ in 0..8 {
         let reply = S::step(&state, &store);
         assert_eq!(reply.verdict, 0, "C7");
-        assert!(reply.boards.iter().chain(&reply.heads).all(|port| port.kind == 0), "C7");
+        assert!(reply.moves.iter().chain(&reply.sends).all(|port| port.kind == 0), "C7");
         state = reply.state;
     }
 }
@@ -160,13 +160,13 @@ pub fn takeover_waits_for_the_frame<S: Operations>() {
     for slot in 0..6 {
         if slot == 1 {
             let loaded = S::load(&state, 1, 3, &[3]);
-            assert_eq!((loaded.verdict, loaded.state.waits), (0, true));
+            assert_eq!((loaded.verdict, loaded.state.waits), (0, 1));
             state = loaded.state;
         }
         let reply = S::step(&state, &store);
-        kinds.push(reply.boards[0].kind);
+        kinds.push(reply.moves[0].kind);
         state = reply.state;
-        assert_eq!(state.waits, slot == 1 || slot == 2);
+        assert_eq!(state.waits, u8::from(slot == 1 || slot == 2));
     }
     assert_eq!(kinds, [1, 0, 0, 1, 1, 1]);
     assert_eq!((state.running.rates[0], state.waiting), (3, Plan::ZERO));
@@ -189,7 +189,7 @@ pub fn refusal_examples<S: Operations>() {
     let two_ports = start::<S>(2, 6, &[1; 4], 1, &store);
     assert_eq!(S::load(&two_ports, 2, 8, &[1; 4]).verdict, 8);
     let loaded = S::load(&two_ports, 2, 6, &[2; 4]);
-    assert_eq!((loaded.verdict, loaded.state.waits), (0, true));
+    assert_eq!((loaded.verdict, loaded.state.waits), (0, 1));
     let refused = S::load(&loaded.state, 2, 6, &[2; 4]);
     assert_eq!((refused.verdict, refused.state), (9, loaded.state));
     assert_eq!(S::arrive(&two_ports, &mut [0; 4], 0, 2, 7).verdict, 10);
@@ -200,7 +200,7 @@ pub fn refusal_examples<S: Operations>() {
     assert_eq!(S::step(&Switch { slot: 2, ..full }, &one_place).verdict, 12);
     full.crosspoints[0].count = 2;
     let refused = S::step(&full, &one_place);
-    assert_eq!((refused.verdict, refused.state, refused.boards[0].kind), (13, full, 0));
+    assert_eq!((refused.verdict, refused.state, refused.moves[0].kind), (13, full, 0));
     let mut second_version = C10_FILE;
     second_version[3] = 2;
     assert_eq!(S::read(&second_version).verdict, 14);

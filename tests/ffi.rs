@@ -18,7 +18,8 @@ const _: () = {
 
 #[link(name = "gambyre", kind = "static")]
 extern "C" {
-    fn gambyre_accept(n: usize, t: u32, rates: *const u16, rates_len: usize) -> u8;
+    fn gambyre_version() -> u32;
+    fn gambyre_accept(n: usize, t: u32, rates: *const u16, rates_len: usize) -> u32;
     fn gambyre_desk_view(
         running: *const u16,
         running_len: usize,
@@ -26,7 +27,7 @@ extern "C" {
         waiting_len: usize,
         n: usize,
         i: usize,
-        takeover: bool,
+        takeover: u32,
         out: *mut u16,
         out_len: usize,
     ) -> usize;
@@ -37,8 +38,8 @@ extern "C" {
         demands_len: usize,
         rates: *mut u16,
         rates_len: usize,
-    ) -> u8;
-    fn gambyre_boost(n: usize, t: u32, given: *const u16, given_len: usize, rates: *mut u16, rates_len: usize) -> u8;
+    ) -> u32;
+    fn gambyre_boost(n: usize, t: u32, given: *const u16, given_len: usize, rates: *mut u16, rates_len: usize) -> u32;
     fn gambyre_read(bytes: *const u8, bytes_len: usize) -> Reading;
     fn gambyre_choose(m: Multiplexer, rates: *const u16, rates_len: usize, frame: u32, slot: u32) -> Choice;
     fn gambyre_count(m: Multiplexer, choice: Choice) -> Multiplexer;
@@ -62,7 +63,11 @@ pub struct Library;
 // SAFETY, for each call below: a pointer and its length come from one slice that outlives the call, and
 // the library writes only where the header's pointer isn't const.
 impl Operations for Library {
-    fn accept(ports: usize, frame: u32, rates: &[u16]) -> u8 {
+    fn version() -> u32 {
+        unsafe { gambyre_version() }
+    }
+
+    fn accept(ports: usize, frame: u32, rates: &[u16]) -> u32 {
         unsafe { gambyre_accept(ports, frame, rates.as_ptr(), rates.len()) }
     }
 
@@ -71,7 +76,7 @@ impl Operations for Library {
         waiting: &[u16],
         ports: usize,
         input: usize,
-        takeover: bool,
+        takeover: u32,
         out: &mut [u16],
     ) -> usize {
         unsafe {
@@ -89,11 +94,11 @@ impl Operations for Library {
         }
     }
 
-    fn scale(ports: usize, frame: u32, demands: &[u16], rates: &mut [u16]) -> u8 {
+    fn scale(ports: usize, frame: u32, demands: &[u16], rates: &mut [u16]) -> u32 {
         unsafe { gambyre_scale(ports, frame, demands.as_ptr(), demands.len(), rates.as_mut_ptr(), rates.len()) }
     }
 
-    fn boost(ports: usize, frame: u32, given: &[u16], rates: &mut [u16]) -> u8 {
+    fn boost(ports: usize, frame: u32, given: &[u16], rates: &mut [u16]) -> u32 {
         unsafe { gambyre_boost(ports, frame, given.as_ptr(), given.len(), rates.as_mut_ptr(), rates.len()) }
     }
 

@@ -1,27 +1,98 @@
 /*
- * Holds the names of include/gambyre.h to the library: the small example of each refusal answers the number behind its
- * name, and so do the kinds of a port's answer and of a choice. The hand-made states show that fields stand where the
- * library looks for them. Exits with 1 if one differs.
+ * Holds include/gambyre.h to the library: the small example of each refusal answers the number behind its name, and so do
+ * the kinds of a port's answer and of a choice; the limits and the version are the library's; a hand-made state may hold
+ * any byte; an empty list may be NULL. It compiles as C99 and as C++. Exits with 1 if something differs.
  */
 #include "gambyre.h"
 
 #include <stdio.h>
+#include <string.h>
 
 static int differing;
 
-static void same(const char *what, unsigned answered, unsigned named) {
+static void same(const char *what, unsigned long answered, unsigned long named) {
     if (answered != named) {
-        printf("%s: %u, but the header says %u\n", what, answered, named);
+        printf("%s: %lu, but the header says %lu\n", what, answered, named);
         differing = 1;
     }
 }
 
 /* A switch of one flow that is served in every slot, with a queue of one cell. */
 static const uint16_t always[1] = {1};
-static uint32_t store[2];
+static uint32_t store[GAMBYRE_MOST_STORE];
 
 static gambyre_switch one_flow(void) {
     return gambyre_start(1, 1, always, 1, 1, store, 1).state;
+}
+
+/* The same made by hand, with the given byte in all that belongs to no port below N, and between the fields. */
+static gambyre_switch one_flow_among(int byte) {
+    const gambyre_switch fresh = one_flow();
+    gambyre_switch state;
+    memset(&state, byte, sizeof state);
+    state.running.ports = fresh.running.ports;
+    state.running.frame = fresh.running.frame;
+    state.running.rates[0] = fresh.running.rates[0];
+    state.waits = fresh.waits;
+    state.depth = fresh.depth;
+    state.slot = fresh.slot;
+    state.queues[0] = fresh.queues[0];
+    state.crosspoints[0].count = fresh.crosspoints[0].count;
+    state.boards[0].served[0] = fresh.boards[0].served[0];
+    state.heads[0].served[0] = fresh.heads[0].served[0];
+    return state;
+}
+
+static int same_plan(const gambyre_plan *a, const gambyre_plan *b) {
+    return a->ports == b->ports && a->frame == b->frame && memcmp(a->rates, b->rates, sizeof a->rates) == 0;
+}
+
+/* Field by field, since the bytes between fields are free. */
+static int same_state(const gambyre_switch *a, const gambyre_switch *b) {
+    int equal = same_plan(&a->running, &b->running) && same_plan(&a->waiting, &b->waiting) && a->waits == b->waits &&
+                a->depth == b->depth && a->slot == b->slot && memcmp(a->queues, b->queues, sizeof a->queues) == 0 &&
+                memcmp(a->boards, b->boards, sizeof a->boards) == 0 &&
+                memcmp(a->heads, b->heads, sizeof a->heads) == 0;
+    for (size_t flow = 0; flow < GAMBYRE_MOST_FLOWS; flow++) {
+        const gambyre_crosspoint *p = &a->crosspoints[flow], *q = &b->crosspoints[flow];
+        equal = equal && p->cells[0] == q->cells[0] && p->cells[1] == q->cells[1] && p->count == q->count;
+    }
+    return equal;
+}
+
+/* Number 12 from every call that takes a state, which comes back as it was in every field. */
+static void refused(const char *what, gambyre_switch state) {
+    gambyre_reply arrival = gambyre_arrive(state, store, 1, 0, 0, 7), load = gambyre_load(state, 1, 1, always, 1);
+    gambyre_slot_reply step = gambyre_step(state, store, 1);
+    same(what, arrival.verdict, GAMBYRE_STATE_INVALID);
+    same(what, load.verdict, GAMBYRE_STATE_INVALID);
+    same(what, step.verdict, GAMBYRE_STATE_INVALID);
+    same(what, gambyre_step(state, NULL, 0).verdict, GAMBYRE_STATE_INVALID);
+    same("the state of a refused arrival", same_state(&arrival.state, &state), 1);
+    same("the state of a refused load", same_state(&load.state, &state), 1);
+    same("the state of a refused step", same_state(&step.state, &state), 1);
+}
+
+static void version(void) {
+    char parts[32];
+    same("version", gambyre_version(), GAMBYRE_VERSION_NUMBER);
+    snprintf(parts, sizeof parts, "%d.%d.%d", GAMBYRE_VERSION_MAJOR, GAMBYRE_VERSION_MINOR, GAMBYRE_VERSION_PATCH);
+    same("the version's parts", strcmp(parts, GAMBYRE_VERSION) == 0, 1);
+}
+
+/* Every verdict has a text of its own, and every other number the same one. */
+static void texts(void) {
+    const char *other = gambyre_verdict_text((gambyre_verdict)UINT32_MAX);
+    for (uint32_t a = GAMBYRE_ACCEPTED; a <= GAMBYRE_FILE_LENGTH; a++) {
+        const char *text = gambyre_verdict_text((gambyre_verdict)a);
+        same("a verdict has a text", strcmp(text, other) != 0, 1);
+        for (uint32_t b = GAMBYRE_ACCEPTED; b < a; b++) {
+            same("the text of one verdict", strcmp(text, gambyre_verdict_text((gambyre_verdict)b)) != 0, 1);
+        }
+    }
+    same("16 is no verdict", strcmp(gambyre_verdict_text((gambyre_verdict)16), other), 0);
+    same("256 is no verdict", strcmp(gambyre_verdict_text((gambyre_verdict)256), other), 0);
+    same("accepted", strcmp(gambyre_verdict_text(GAMBYRE_ACCEPTED), "accepted"), 0);
 }
 
 static void plans(void) {
@@ -40,12 +111,30 @@ static void files(void) {
     same("empty file", gambyre_read(version_2, 0).verdict, GAMBYRE_FILE_LENGTH);
 }
 
+/* All at their largest, and each one further. */
+static void limits(void) {
+    enum { N = GAMBYRE_MOST_PORTS, T = GAMBYRE_MOST_SLOTS, Q = GAMBYRE_MOST_DEPTH };
+    static const uint16_t none[(N + 1) * (N + 1)] = {0};
+    const uint8_t head[8] = {'L', 'S', 'P', 1, 0, N, T % 256, T / 256};
+    uint8_t file[GAMBYRE_MOST_FILE] = {0};
+    memcpy(file, head, sizeof head);
+    same("flows", GAMBYRE_MOST_FLOWS, N * N);
+    same("all at their largest", gambyre_start(N, T, none, GAMBYRE_MOST_FLOWS, Q, store, GAMBYRE_MOST_STORE).verdict,
+         GAMBYRE_ACCEPTED);
+    same("a port more", gambyre_accept(N + 1, T, none, (N + 1) * (N + 1)), GAMBYRE_PORTS_OUT_OF_RANGE);
+    same("a slot more", gambyre_accept(N, T + 1, none, GAMBYRE_MOST_FLOWS), GAMBYRE_FRAME_OUT_OF_RANGE);
+    same("a cell more", gambyre_start(1, 1, always, 1, Q + 1, store, Q + 1).verdict, GAMBYRE_DEPTH_OUT_OF_RANGE);
+    same("the longest file", gambyre_read(file, GAMBYRE_MOST_FILE).verdict, GAMBYRE_ACCEPTED);
+    same("a byte less", gambyre_read(file, GAMBYRE_MOST_FILE - 1).verdict, GAMBYRE_FILE_LENGTH);
+}
+
 static void starts_and_loads(void) {
     same("Q = 65", gambyre_start(1, 1, always, 1, 65, store, 1).verdict, GAMBYRE_DEPTH_OUT_OF_RANGE);
     same("Q = 2, 1 place", gambyre_start(1, 1, always, 1, 2, store, 1).verdict, GAMBYRE_STORE_LENGTH);
     same("T = 2 to T = 1", gambyre_load(one_flow(), 1, 2, always, 1).verdict, GAMBYRE_PLAN_MISMATCH);
     gambyre_reply loaded = gambyre_load(one_flow(), 1, 1, always, 1);
     same("load", loaded.verdict, GAMBYRE_ACCEPTED);
+    same("what a load leaves in waits", loaded.state.waits, 1);
     same("second load", gambyre_load(loaded.state, 1, 1, always, 1).verdict, GAMBYRE_PLAN_WAITS);
 }
 
@@ -65,13 +154,59 @@ static void arrivals(void) {
 static void hand_made_states(void) {
     gambyre_switch late = one_flow();
     late.slot = 1;
-    same("slot = T", gambyre_step(late, store, 1).verdict, GAMBYRE_STATE_INVALID);
+    refused("slot = T", late);
     gambyre_switch full = one_flow();
     full.queues[0].count = 1;
     full.crosspoints[0].count = 2;
     same("third cell", gambyre_step(full, store, 1).verdict, GAMBYRE_CROSSPOINT_FULL);
     full.crosspoints[0].count = 3;
-    same("three cells", gambyre_step(full, store, 1).verdict, GAMBYRE_STATE_INVALID);
+    refused("three cells", full);
+    gambyre_reply no_start = gambyre_start(0, 0, always, 1, 1, store, 1);
+    same("N = 0", no_start.verdict, GAMBYRE_PORTS_OUT_OF_RANGE);
+    refused("the state of a refused start", no_start.state);
+}
+
+/* Every byte of `waits` but 0 says that a plan waits: it is judged, takes over in slot 0 and in no other, and leaves 0. */
+static void bytes_of_waits(void) {
+    for (unsigned byte = 0; byte < 256; byte++) {
+        gambyre_switch outside = one_flow_among(0xA5);
+        outside.waiting.ports = 3000;
+        outside.waiting.frame = 9;
+        outside.waits = (uint8_t)byte;
+        if (byte != 0) {
+            refused("a waiting plan of 3000 ports", outside);
+        } else {
+            same("3000 ports, and none waits", gambyre_step(outside, store, 1).verdict, GAMBYRE_ACCEPTED);
+        }
+
+        const uint16_t twice[1] = {2};
+        gambyre_switch state = gambyre_start(1, 2, always, 1, 1, store, 1).state;
+        state.waiting.ports = 1;
+        state.waiting.frame = 2;
+        state.waiting.rates[0] = 2;
+        state.waits = (uint8_t)byte;
+        gambyre_slot_reply first = gambyre_step(state, store, 1);
+        same("slot 0", first.verdict, GAMBYRE_ACCEPTED);
+        same("the rate after slot 0", first.state.running.rates[0], byte != 0 ? 2 : 1);
+        same("waits after slot 0", first.state.waits, 0);
+        same("the waiting plan after slot 0", first.state.waiting.ports, byte != 0 ? 0 : 1);
+        same("a load", gambyre_load(state, 1, 2, twice, 1).verdict, byte != 0 ? GAMBYRE_PLAN_WAITS : GAMBYRE_ACCEPTED);
+        same("waits after an arrival", gambyre_arrive(state, store, 1, 0, 0, 7).state.waits, byte);
+        state.slot = 1;
+        gambyre_slot_reply second = gambyre_step(state, store, 1);
+        same("slot 1", second.verdict, GAMBYRE_ACCEPTED);
+        same("the rate after slot 1", second.state.running.rates[0], 1);
+        same("waits after slot 1", second.state.waits, byte);
+    }
+}
+
+static void desk_views(void) {
+    const uint16_t running[1] = {3}, waiting[1] = {4};
+    for (unsigned takeover = 0; takeover <= 256; takeover++) {
+        uint16_t row[1] = {0};
+        same("a row", gambyre_desk_view(running, 1, waiting, 1, 1, 0, takeover, row, 1), 1);
+        same("its rate", row[0], takeover == 0 ? 3 : 4);
+    }
 }
 
 static void choices(void) {
@@ -79,18 +214,54 @@ static void choices(void) {
     const uint16_t second[2] = {0, 1};
     gambyre_choice choice = gambyre_choose(rested, second, 2, 1, 0);
     same("a choice", choice.kind, GAMBYRE_FLOW);
-    same("its flow", (unsigned)choice.flow, 1);
+    same("its flow", choice.flow, 1);
     same("its count", gambyre_count(rested, choice).served[1], 1);
     same("no choice", gambyre_choose(rested, second, 1, 1, 0).kind, GAMBYRE_NO_FLOW);
+    memset(&choice, 0xA5, sizeof choice);
+    choice.flow = 1;
+    for (unsigned kind = 0; kind <= 256; kind++) {
+        choice.kind = (gambyre_choice_kind)kind;
+        same("the count of a kind", gambyre_count(rested, choice).served[1], kind != GAMBYRE_NO_FLOW);
+    }
+}
+
+/* Each list of each call. */
+static void empty_lists(void) {
+    const gambyre_multiplexer rested = {{0}};
+    uint16_t list[1] = {9};
+    same("start, no rates", gambyre_start(1, 1, NULL, 0, 1, store, 1).verdict, GAMBYRE_LIST_LENGTH);
+    same("start, no store", gambyre_start(1, 1, always, 1, 1, NULL, 0).verdict, GAMBYRE_STORE_LENGTH);
+    same("arrive, no store", gambyre_arrive(one_flow(), NULL, 0, 0, 0, 7).verdict, GAMBYRE_STORE_LENGTH);
+    same("load, no rates", gambyre_load(one_flow(), 1, 1, NULL, 0).verdict, GAMBYRE_LIST_LENGTH);
+    same("step, no store", gambyre_step(one_flow(), NULL, 0).verdict, GAMBYRE_STORE_LENGTH);
+    same("accept, no rates", gambyre_accept(1, 1, NULL, 0), GAMBYRE_LIST_LENGTH);
+    same("N = 0, no rates", gambyre_accept(0, 0, NULL, 0), GAMBYRE_PORTS_OUT_OF_RANGE);
+    same("desk view, no running list", gambyre_desk_view(NULL, 0, always, 1, 1, 0, 1, list, 1), 0);
+    same("desk view, no waiting list", gambyre_desk_view(always, 1, NULL, 0, 1, 0, 0, list, 1), 0);
+    same("desk view, no list", gambyre_desk_view(NULL, 0, NULL, 0, 0, 0, 0, NULL, 0), 0);
+    same("desk view, nowhere to copy", gambyre_desk_view(always, 1, always, 1, 1, 0, 0, NULL, 0), 1);
+    same("scale, no demands", gambyre_scale(1, 1, NULL, 0, list, 1), GAMBYRE_LIST_LENGTH);
+    same("scale, no rates", gambyre_scale(1, 1, always, 1, NULL, 0), GAMBYRE_LIST_LENGTH);
+    same("boost, no plan", gambyre_boost(1, 1, NULL, 0, list, 1), GAMBYRE_LIST_LENGTH);
+    same("boost, no rates", gambyre_boost(1, 1, always, 1, NULL, 0), GAMBYRE_LIST_LENGTH);
+    same("read, no bytes", gambyre_read(NULL, 0).verdict, GAMBYRE_FILE_LENGTH);
+    same("choose, no rates", gambyre_choose(rested, NULL, 0, 1, 0).kind, GAMBYRE_NO_FLOW);
+    same("what refused calls write", list[0], 9);
 }
 
 int main(void) {
+    version();
+    texts();
     plans();
     files();
+    limits();
     starts_and_loads();
     arrivals();
     hand_made_states();
+    bytes_of_waits();
+    desk_views();
     choices();
+    empty_lists();
     if (!differing) {
         printf("tests/header.c: the header's numbers are the library's\n");
     }

@@ -14,6 +14,9 @@ pub mod refusal;
 pub mod regulator;
 pub mod switch;
 
+/// The version of the interface: major × 10,000 + minor × 100 + patch.
+pub const VERSION: u32 = 900;
+
 pub use multiplexer::Multiplexer;
 pub use plan::Plan;
 pub use refusal::Refusal;

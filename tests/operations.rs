@@ -3,12 +3,12 @@
 
 use crate::model::plan::{self, MOST_PORTS};
 use crate::model::refusal::number;
-use crate::model::{by_value, planfile, regulator, Multiplexer, Plan, Port, Switch};
+use crate::model::{by_value, planfile, regulator, Multiplexer, Plan, Port, Switch, VERSION};
 
 #[derive(Clone, Copy, Debug, PartialEq, Eq)]
 #[repr(C)]
 pub struct Reply {
-    pub verdict: u8,
+    pub verdict: u32,
     pub state: Switch,
 }
 
@@ -16,7 +16,7 @@ pub struct Reply {
 #[derive(Clone, Copy, Debug, PartialEq, Eq)]
 #[repr(C)]
 pub struct PortReply {
-    pub kind: u8,
+    pub kind: u32,
     pub other: usize,
     pub cell: u32,
 }
@@ -24,16 +24,16 @@ pub struct PortReply {
 #[derive(Clone, Copy, Debug, PartialEq, Eq)]
 #[repr(C)]
 pub struct SlotReply {
-    pub verdict: u8,
+    pub verdict: u32,
     pub state: Switch,
-    pub boards: [PortReply; MOST_PORTS],
-    pub heads: [PortReply; MOST_PORTS],
+    pub moves: [PortReply; MOST_PORTS],
+    pub sends: [PortReply; MOST_PORTS],
 }
 
 #[derive(Clone, Copy, Debug, PartialEq, Eq)]
 #[repr(C)]
 pub struct Reading {
-    pub verdict: u8,
+    pub verdict: u32,
     pub plan: Plan,
 }
 
@@ -41,23 +41,18 @@ pub struct Reading {
 #[derive(Clone, Copy, Debug, PartialEq, Eq)]
 #[repr(C)]
 pub struct Choice {
-    pub kind: u8,
+    pub kind: u32,
     pub flow: usize,
 }
 
 /// One implementation of the switch. States are lent here, and copied where the header takes them by value.
 pub trait Operations {
-    fn accept(ports: usize, frame: u32, rates: &[u16]) -> u8;
-    fn desk_view(
-        running: &[u16],
-        waiting: &[u16],
-        ports: usize,
-        input: usize,
-        takeover: bool,
-        out: &mut [u16],
-    ) -> usize;
-    fn scale(ports: usize, frame: u32, demands: &[u16], rates: &mut [u16]) -> u8;
-    fn boost(ports: usize, frame: u32, given: &[u16], rates: &mut [u16]) -> u8;
+    fn version() -> u32;
+    fn accept(ports: usize, frame: u32, rates: &[u16]) -> u32;
+    fn desk_view(running: &[u16], waiting: &[u16], ports: usize, input: usize, takeover: u32, out: &mut [u16])
+        -> usize;
+    fn scale(ports: usize, frame: u32, demands: &[u16], rates: &mut [u16]) -> u32;
+    fn boost(ports: usize, frame: u32, given: &[u16], rates: &mut [u16]) -> u32;
     fn read(bytes: &[u8]) -> Reading;
     fn choose(multiplexer: &Multiplexer, rates: &[u16], frame: u32, slot: u32) -> Choice;
     fn count(multiplexer: &Multiplexer, choice: Choice) -> Multiplexer;
@@ -71,7 +66,11 @@ pub trait Operations {
 pub struct Model;
 
 impl Operations for Model {
-    fn accept(ports: usize, frame: u32, rates: &[u16]) -> u8 {
+    fn version() -> u32 {
+        VERSION
+    }
+
+    fn accept(ports: usize, frame: u32, rates: &[u16]) -> u32 {
         number(&plan::accept(ports, frame, rates))
     }
 
@@ -80,20 +79,20 @@ impl Operations for Model {
         waiting: &[u16],
         ports: usize,
         input: usize,
-        takeover: bool,
+        takeover: u32,
         out: &mut [u16],
     ) -> usize {
-        let row = plan::desk_view(running, waiting, ports, input, takeover);
+        let row = plan::desk_view(running, waiting, ports, input, takeover != 0);
         let fits = row.len().min(out.len());
         out[..fits].copy_from_slice(&row[..fits]);
         row.len()
     }
 
-    fn scale(ports: usize, frame: u32, demands: &[u16], rates: &mut [u16]) -> u8 {
+    fn scale(ports: usize, frame: u32, demands: &[u16], rates: &mut [u16]) -> u32 {
         number(&regulator::scale(ports, frame, demands, rates))
     }
 
-    fn boost(ports: usize, frame: u32, given: &[u16], rates: &mut [u16]) -> u8 {
+    fn boost(ports: usize, frame: u32, given: &[u16], rates: &mut [u16]) -> u32 {
         number(&regulator::boost(ports, frame, given, rates))
     }
 
@@ -133,12 +132,12 @@ impl Operations for Model {
 
     fn step(state: &Switch, store: &[u32]) -> SlotReply {
         let idle = PortReply::from(Port::Idle);
-        let mut reply = SlotReply { verdict: 0, state: *state, boards: [idle; MOST_PORTS], heads: [idle; MOST_PORTS] };
+        let mut reply = SlotReply { verdict: 0, state: *state, moves: [idle; MOST_PORTS], sends: [idle; MOST_PORTS] };
         let outcome = reply.state.step(store);
         reply.verdict = number(&outcome);
         if let Ok(answer) = outcome {
-            reply.boards = answer.boards.map(PortReply::from);
-            reply.heads = answer.heads.map(PortReply::from);
+            reply.moves = answer.moves.map(PortReply::from);
+            reply.sends = answer.sends.map(PortReply::from);
         }
         reply
     }

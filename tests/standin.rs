@@ -20,7 +20,12 @@ fn say_so() {
 // SAFETY, for each function below: as the header asks, a pointer and its length describe one list.
 
 #[no_mangle]
-unsafe extern "C" fn gambyre_accept(n: usize, t: u32, rates: *const u16, rates_len: usize) -> u8 {
+extern "C" fn gambyre_version() -> u32 {
+    Model::version()
+}
+
+#[no_mangle]
+unsafe extern "C" fn gambyre_accept(n: usize, t: u32, rates: *const u16, rates_len: usize) -> u32 {
     Model::accept(n, t, from_raw_parts(rates, rates_len))
 }
 
@@ -32,7 +37,7 @@ unsafe extern "C" fn gambyre_desk_view(
     waiting_len: usize,
     n: usize,
     i: usize,
-    takeover: bool,
+    takeover: u32,
     out: *mut u16,
     out_len: usize,
 ) -> usize {
@@ -49,7 +54,7 @@ unsafe extern "C" fn gambyre_scale(
     demands_len: usize,
     rates: *mut u16,
     rates_len: usize,
-) -> u8 {
+) -> u32 {
     Model::scale(n, t, from_raw_parts(demands, demands_len), from_raw_parts_mut(rates, rates_len))
 }
 
@@ -61,7 +66,7 @@ unsafe extern "C" fn gambyre_boost(
     given_len: usize,
     rates: *mut u16,
     rates_len: usize,
-) -> u8 {
+) -> u32 {
     Model::boost(n, t, from_raw_parts(given, given_len), from_raw_parts_mut(rates, rates_len))
 }
 

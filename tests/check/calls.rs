@@ -8,7 +8,7 @@ use crate::model::{by_value, Multiplexer, Plan, SlotAnswer, Switch};
 use crate::operations::Operations;
 
 /// The verdict and the state that comes back.
-pub type Outcome = Result<(u8, Switch), String>;
+pub type Outcome = Result<(u32, Switch), String>;
 
 pub fn arrive<S: Operations>(
     state: &Switch,
@@ -47,8 +47,8 @@ pub fn step<S: Operations>(state: &Switch, store: Guarded<u32>) -> Outcome {
     same_verdict(reply.verdict, number(&outcome))
         .and_then(|()| same_state(&reply.state, &next))
         .and_then(|()| same_list(&store, &kept))
-        .and_then(|()| same_ports("board", &reply.boards, &answer.boards))
-        .and_then(|()| same_ports("head", &reply.heads, &answer.heads))
+        .and_then(|()| same_ports("board", &reply.moves, &answer.moves))
+        .and_then(|()| same_ports("head", &reply.sends, &answer.sends))
         .map_err(|what| format!("step, store of {}: {what}; on {}", kept.list().len(), describe(state)))?;
     Ok((reply.verdict, reply.state))
 }

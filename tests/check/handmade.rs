@@ -69,10 +69,8 @@ fn state_of(random: &mut Random, shape: Shape) -> Switch {
     let mut state = garbage(random);
     let rates = plans::accepted(random, ports, frame);
     state.running.set(ports, frame, &rates);
-    state.waits = random.flip();
-    if state.waits {
-        let rates = plans::accepted(random, ports, frame);
-        state.waiting.set(ports, frame, &rates);
+    if random.flip() {
+        wait(random, &mut state, ports, frame);
     }
     state.depth = depth;
     let any_slot = random.below(frame as usize) as u32;
@@ -91,7 +89,7 @@ fn state_of(random: &mut Random, shape: Shape) -> Switch {
 fn garbage(random: &mut Random) -> Switch {
     fn plan(random: &mut Random) -> Plan {
         Plan {
-            ports: random.pick(&[0, 1, 2, 16, 17, usize::MAX]),
+            ports: random.pick(&[0, 1, 2, 16, 17, 3000, usize::MAX]),
             frame: random.next() as u32,
             rates: std::array::from_fn(|_| random.next() as u16),
         }
@@ -102,7 +100,7 @@ fn garbage(random: &mut Random) -> Switch {
     Switch {
         running: plan(random),
         waiting: plan(random),
-        waits: false,
+        waits: 0,
         depth: 0,
         slot: 0,
         queues: std::array::from_fn(|_| Queue { place: random.next() as u8, count: random.next() as u8 }),
@@ -144,7 +142,7 @@ fn running_ports(random: &mut Random, past: bool) -> Switch {
     let shape = Shape { ports: if few { 1 } else { 16 }, ..shape(random) };
     let mut state = state_of(random, shape);
     if past {
-        state.waits = false;
+        state.waits = 0;
         state.running.ports = if few { 0 } else { random.pick(&[17, 255, 1 << 32, usize::MAX]) };
     }
     state
@@ -155,7 +153,7 @@ fn running_frame(random: &mut Random, past: bool) -> Switch {
     let shape = Shape { frame: if short { 1 } else { 4096 }, ..shape(random) };
     let mut state = state_of(random, shape);
     if past {
-        state.waits = false;
+        state.waits = 0;
         if short {
             state.running.rates.fill(0);
             state.running.frame = 0;
@@ -199,7 +197,7 @@ fn waiting_line(random: &mut Random, past: bool, line: Line) -> Switch {
     let (ports, frame) = (state.running.ports, state.running.frame);
     let rates = line_at_limit(random, ports, frame, past, line);
     state.waiting.set(ports, frame, &rates);
-    state.waits = true;
+    state.waits = any_waits(random);
     state
 }
 
@@ -223,15 +221,26 @@ fn waiting_frame(random: &mut Random, past: bool) -> Switch {
 fn wait(random: &mut Random, state: &mut Switch, ports: usize, frame: u32) {
     let rates = plans::accepted(random, ports, frame);
     state.waiting.set(ports, frame, &rates);
-    state.waits = true;
+    state.waits = any_waits(random);
+}
+
+/// A byte that says that a plan waits.
+fn any_waits(random: &mut Random) -> u8 {
+    let any = random.within(1, 255) as u8;
+    random.pick(&[1, 2, 3, 254, 255, any])
 }
 
 /// A waiting plan that can't be accepted is judged only while it waits.
 fn unused_waiting_plan(random: &mut Random, past: bool) -> Switch {
     let mut state = any_state(random);
     state.waiting = garbage(random).waiting;
-    state.waiting.frame = random.pick(&[0, 4097, u32::MAX]);
-    state.waits = past;
+    if random.flip() {
+        state.waiting.frame = random.pick(&[0, 4097, u32::MAX]);
+    } else {
+        state.waiting.frame = random.pick(&[state.running.frame, 9]);
+        state.waiting.ports = random.pick(&[0, 17, 3000, usize::MAX]);
+    }
+    state.waits = if past { any_waits(random) } else { 0 };
     state
 }
 
@@ -340,7 +349,9 @@ fn from_ports_up(random: &mut Random, past: bool) -> Switch {
 fn third_cell(random: &mut Random, past: bool) -> Switch {
     loop {
         let mut state = any_state(random);
-        state.waits &= state.slot > 0;
+        if state.slot == 0 {
+            state.waits = 0;
+        }
         if set_crossings(random, &mut state, past) {
             return state;
         }

@@ -16,6 +16,7 @@ use std::marker::PhantomData;
 /// Edge inputs once, random ones `rounds` times.
 pub fn compare<S: Operations>(rounds: usize, random: &mut Random, tally: &mut Tally) -> Result<(), String> {
     let mut inputs = Inputs::<S> { random, tally, implementation: PhantomData };
+    same("version", &S::version(), &Model::version())?;
     inputs.plan_edges()?;
     inputs.desk_view_edges()?;
     inputs.multiplexer_edges()?;
@@ -41,7 +42,7 @@ struct Inputs<'a, S> {
 }
 
 impl<S: Operations> Inputs<'_, S> {
-    fn accept(&mut self, ports: usize, frame: u32, rates: &[u16]) -> Result<u8, String> {
+    fn accept(&mut self, ports: usize, frame: u32, rates: &[u16]) -> Result<u32, String> {
         let verdict = Model::accept(ports, frame, rates);
         self.seen(verdict);
         same_verdict(S::accept(ports, frame, rates), verdict)
@@ -55,7 +56,7 @@ impl<S: Operations> Inputs<'_, S> {
         waiting: &[u16],
         ports: usize,
         input: usize,
-        takeover: bool,
+        takeover: u32,
         out_length: usize,
     ) -> Result<(), String> {
         let mut subject_out = Guarded::rates(self.random, out_length);
@@ -103,7 +104,7 @@ impl<S: Operations> Inputs<'_, S> {
             .map_err(|what| format!("boost N {ports} T {frame} plan {} out {out_length}: {what}", told(given)))
     }
 
-    fn read(&mut self, bytes: &[u8]) -> Result<u8, String> {
+    fn read(&mut self, bytes: &[u8]) -> Result<u32, String> {
         let (subject, model) = (S::read(bytes), Model::read(bytes));
         self.seen(model.verdict);
         same_verdict(subject.verdict, model.verdict)
@@ -141,7 +142,7 @@ impl<S: Operations> Inputs<'_, S> {
         rates: &[u16],
         depth: usize,
         store_length: usize,
-    ) -> Result<u8, String> {
+    ) -> Result<u32, String> {
         let store = Guarded::cells(self.random, store_length);
         let kept = store.clone();
         let subject = S::start(ports, frame, rates, depth, store.list());
@@ -164,7 +165,7 @@ impl<S: Operations> Inputs<'_, S> {
         Ok(())
     }
 
-    fn seen(&mut self, verdict: u8) {
+    fn seen(&mut self, verdict: u32) {
         self.tally.inputs += 1;
         self.tally.verdict(verdict);
     }

@@ -7,8 +7,8 @@ use crate::model::Switch;
 use crate::operations::{PortReply, SlotReply};
 use std::collections::VecDeque;
 
-const EMPTY: u8 = 1;
-const MOVED: u8 = 2;
+const EMPTY: u32 = 1;
+const MOVED: u32 = 2;
 
 /// How often the contents of all flows, and not only those of the served ones, are looked at.
 const FULL_LOOK: u64 = 128;
@@ -50,14 +50,14 @@ impl Promises {
             }
         }
         for input in 0..self.ports {
-            self.board(input, &reply.boards[input], tally)?;
+            self.board(input, &reply.moves[input], tally)?;
         }
         for output in 0..self.ports {
-            self.head(output, &reply.heads[output])?;
+            self.head(output, &reply.sends[output])?;
         }
         self.shares(reply, tally)?;
-        for port in self.ports..reply.boards.len() {
-            if (reply.boards[port].kind, reply.heads[port].kind) != (0, 0) {
+        for port in self.ports..reply.moves.len() {
+            if (reply.moves[port].kind, reply.sends[port].kind) != (0, 0) {
                 return Err(format!("port {port} isn't idle, N = {}", self.ports));
             }
         }
@@ -104,16 +104,16 @@ impl Promises {
 
     fn shares(&mut self, reply: &SlotReply, tally: &mut Tally) -> Result<(), String> {
         let ports = self.ports;
-        for (output, head) in reply.heads[..ports].iter().enumerate() {
+        for (output, head) in reply.sends[..ports].iter().enumerate() {
             if head.kind == MOVED {
-                let board = &reply.boards[head.other];
+                let board = &reply.moves[head.other];
                 let board_empty = board.kind == EMPTY && board.other == output;
                 self.share(head.other * ports + output, board_empty, true, tally)?;
             }
         }
-        for (input, board) in reply.boards[..ports].iter().enumerate() {
+        for (input, board) in reply.moves[..ports].iter().enumerate() {
             if board.kind == EMPTY {
-                let head = &reply.heads[board.other];
+                let head = &reply.sends[board.other];
                 let counted = head.kind == MOVED && head.other == input;
                 if !counted {
                     self.share(input * ports + board.other, true, false, tally)?;
@@ -134,11 +134,11 @@ impl Promises {
 
     fn look_at_served(&self, reply: &SlotReply, store: &[u32]) -> Result<(), String> {
         for port in 0..self.ports {
-            if reply.boards[port].kind != 0 {
-                self.look_at(&reply.state, store, port * self.ports + reply.boards[port].other)?;
+            if reply.moves[port].kind != 0 {
+                self.look_at(&reply.state, store, port * self.ports + reply.moves[port].other)?;
             }
-            if reply.heads[port].kind != 0 {
-                self.look_at(&reply.state, store, reply.heads[port].other * self.ports + port)?;
+            if reply.sends[port].kind != 0 {
+                self.look_at(&reply.state, store, reply.sends[port].other * self.ports + port)?;
             }
         }
         Ok(())

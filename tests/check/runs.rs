@@ -133,7 +133,7 @@ impl<S: Operations> Run<S> {
         subject.state = reply.state;
         let outcome = Switch::start(*ports, *frame, rates, *depth, model.store.list());
         same_verdict(reply.verdict, number(&outcome))?;
-        model.state = outcome.map_err(|refusal| format!("the start is refused {}", refusal as u8))?;
+        model.state = outcome.map_err(|refusal| format!("the start is refused {}", refusal as u32))?;
         let promises = Promises::new(&model.state.running);
         let run = Run { subject, model, promises, implementation: PhantomData };
         run.same_sides()?;
@@ -225,8 +225,8 @@ impl<S: Operations> Run<S> {
         self.subject.state = reply.state;
         self.compare(reply.verdict, &outcome, tally)?;
         let answer = outcome.unwrap_or(SlotAnswer::IDLE);
-        same_ports("board", &reply.boards, &answer.boards)?;
-        same_ports("head", &reply.heads, &answer.heads)?;
+        same_ports("board", &reply.moves, &answer.moves)?;
+        same_ports("head", &reply.sends, &answer.sends)?;
         if outcome.is_err() {
             return Ok(None);
         }
@@ -245,8 +245,8 @@ impl<S: Operations> Run<S> {
     fn tally_ports(&self, answer: &SlotAnswer, tally: &mut Tally) {
         let state = &self.model.state;
         for port in 0..state.ports() {
-            tally.ports(&answer.boards[port], &answer.heads[port]);
-            if let Port::Moved { other, .. } = answer.boards[port] {
+            tally.ports(&answer.moves[port], &answer.sends[port]);
+            if let Port::Moved { other, .. } = answer.moves[port] {
                 if state.depth > 1 && state.queues[state.flow(port, other)].place == 0 {
                     tally.branch(Branch::MoveWraps);
                 }
@@ -254,7 +254,7 @@ impl<S: Operations> Run<S> {
         }
     }
 
-    fn compare<T>(&self, verdict: u8, outcome: &Result<T, Refusal>, tally: &mut Tally) -> Result<(), String> {
+    fn compare<T>(&self, verdict: u32, outcome: &Result<T, Refusal>, tally: &mut Tally) -> Result<(), String> {
         same_verdict(verdict, number(outcome))?;
         self.same_sides()?;
         if verdict == 12 || verdict == 13 {

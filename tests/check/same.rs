@@ -6,7 +6,7 @@ use crate::model::{Crosspoint, Multiplexer, Port, Switch};
 use crate::operations::PortReply;
 use std::fmt::Debug;
 
-pub fn same_verdict(subject: u8, model: u8) -> Result<(), String> {
+pub fn same_verdict(subject: u32, model: u32) -> Result<(), String> {
     same("verdict", &subject, &model)
 }
 

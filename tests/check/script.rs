@@ -74,7 +74,7 @@ impl Script {
         let Start { ports, depth, .. } = self.start;
         match self.feeding {
             Feeding::Backlog { leak } => {
-                for (input, board) in answer.boards.iter().enumerate() {
+                for (input, board) in answer.moves.iter().enumerate() {
                     if let Port::Moved { other, .. } = *board {
                         if !self.random.one_in(leak) {
                             self.arrival(input, other);

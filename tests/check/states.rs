@@ -10,9 +10,9 @@ use crate::model::plan::MOST_PORTS;
 use crate::model::Switch;
 use crate::operations::Operations;
 
-const STORE_LENGTH: u8 = 7;
-const BROKEN_STATE: u8 = 12;
-const THIRD_CELL: u8 = 13;
+const STORE_LENGTH: u32 = 7;
+const BROKEN_STATE: u32 = 12;
+const THIRD_CELL: u32 = 13;
 
 /// Calls that follow one another from one hand-made state.
 const WALK: usize = 6;
@@ -47,6 +47,7 @@ fn all_calls<S: Operations>(
     random: &mut Random,
     tally: &mut Tally,
 ) -> Result<(), String> {
+    tally.waits(state.waits, broken);
     for call in [arrive::<S>, load::<S>, step::<S>, step_other_length::<S>] {
         let (verdict, _) = tallied(call(state, random), tally)?;
         if (verdict == BROKEN_STATE) != broken {

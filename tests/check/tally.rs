@@ -59,6 +59,9 @@ const BRANCHES: [&str; 15] = [
     "lower share checked, fed in the stretch",
 ];
 
+/// Bytes that `waits` has to hold in hand-made states; a bool would have two of them.
+const WAITS: [u8; 6] = [0, 1, 2, 3, 254, 255];
+
 #[derive(Default)]
 pub struct Tally {
     pub runs: u64,
@@ -70,11 +73,13 @@ pub struct Tally {
     branches: [u64; BRANCHES.len()],
     /// How often a clause was met at its limit, and how often past it.
     clauses: BTreeMap<&'static str, [u64; 2]>,
+    /// How often `waits` held each byte of `WAITS`, and last any other one: in states that hold, and in broken ones.
+    waits: [[u64; 2]; WAITS.len() + 1],
 }
 
 impl Tally {
-    pub fn verdict(&mut self, verdict: u8) {
-        self.verdicts[usize::from(verdict)] += 1;
+    pub fn verdict(&mut self, verdict: u32) {
+        self.verdicts[verdict as usize] += 1;
     }
 
     pub fn branch(&mut self, branch: Branch) {
@@ -99,6 +104,11 @@ impl Tally {
         self.clauses.entry(name).or_default()[usize::from(past)] += 1;
     }
 
+    pub fn waits(&mut self, byte: u8, broken: bool) {
+        let place = WAITS.iter().position(|&named| named == byte).unwrap_or(WAITS.len());
+        self.waits[place][usize::from(broken)] += 1;
+    }
+
     /// Prints all counts; answers what was never hit.
     pub fn report(&self) -> Vec<String> {
         let mut missing = Vec::new();
@@ -121,6 +131,12 @@ impl Tally {
         for (name, [within, past]) in &self.clauses {
             line(format!("{name}, at the limit"), *within);
             line(format!("{name}, past it"), *past);
+        }
+        println!("`waits` in hand-made states, each given to every call");
+        let names = WAITS.iter().map(|byte| format!("waits {byte}")).chain(["waits, another byte".to_string()]);
+        for (name, [valid, broken]) in names.zip(&self.waits) {
+            line(format!("{name}, valid state"), *valid);
+            line(format!("{name}, state refused 12"), *broken);
         }
         missing
     }

@@ -22,7 +22,7 @@ impl Multiplexer {
                 continue;
             }
             let deadline = ((served + 1) * frame).div_ceil(rate);
-            if best.is_none_or(|(smallest, _)| deadline < smallest) {
+            if best.map_or(true, |(smallest, _)| deadline < smallest) {
                 best = Some((deadline, flow));
             }
         }

@@ -22,10 +22,10 @@ pub enum Refusal {
 }
 
 /// The number of a call's outcome: 0 is accepted.
-pub fn number<T>(outcome: &Result<T, Refusal>) -> u8 {
+pub fn number<T>(outcome: &Result<T, Refusal>) -> u32 {
     match outcome {
         Ok(_) => 0,
-        Err(refusal) => *refusal as u8,
+        Err(refusal) => *refusal as u32,
     }
 }
 

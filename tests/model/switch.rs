@@ -22,13 +22,14 @@ pub struct Crosspoint {
     pub count: u8,
 }
 
-/// Flow (i, j) has number i × N + j in queues and crosspoints.
+/// Flow (i, j) has number i × N + j in queues and crosspoints. `waits` is 0 where no plan waits; every other byte, which a
+/// hand-made state may hold, says that one does.
 #[derive(Clone, Copy, Debug, PartialEq, Eq)]
 #[repr(C)]
 pub struct Switch {
     pub running: Plan,
     pub waiting: Plan,
-    pub waits: bool,
+    pub waits: u8,
     pub depth: usize,
     pub slot: u32,
     pub queues: [Queue; MOST_FLOWS],
@@ -47,12 +48,12 @@ pub enum Port {
 
 #[derive(Clone, Copy, Debug, PartialEq, Eq)]
 pub struct SlotAnswer {
-    pub boards: [Port; MOST_PORTS],
-    pub heads: [Port; MOST_PORTS],
+    pub moves: [Port; MOST_PORTS],
+    pub sends: [Port; MOST_PORTS],
 }
 
 impl SlotAnswer {
-    pub const IDLE: SlotAnswer = SlotAnswer { boards: [Port::Idle; MOST_PORTS], heads: [Port::Idle; MOST_PORTS] };
+    pub const IDLE: SlotAnswer = SlotAnswer { moves: [Port::Idle; MOST_PORTS], sends: [Port::Idle; MOST_PORTS] };
 }
 
 /// The flow that each port serves, by the number of the other port.
@@ -99,7 +100,7 @@ impl Switch {
     pub const ZERO: Switch = Switch {
         running: Plan::ZERO,
         waiting: Plan::ZERO,
-        waits: false,
+        waits: 0,
         depth: 0,
         slot: 0,
         queues: [Queue { place: 0, count: 0 }; MOST_FLOWS],
@@ -133,9 +134,9 @@ impl Switch {
         self.check()?;
         plan::accept(ports, frame, rates)?;
         refuse_if((ports, frame) != (self.running.ports, self.running.frame), Refusal::OtherPortsOrFrame)?;
-        refuse_if(self.waits, Refusal::PlanAlreadyWaits)?;
+        refuse_if(self.plan_waits(), Refusal::PlanAlreadyWaits)?;
         self.waiting.set(ports, frame, rates);
-        self.waits = true;
+        self.waits = 1;
         Ok(())
     }
 
@@ -175,9 +176,13 @@ impl Switch {
         &crosspoint.cells[..usize::from(crosspoint.count)]
     }
 
+    pub fn plan_waits(&self) -> bool {
+        self.waits != 0
+    }
+
     /// Whether the next step begins with a takeover.
     pub fn takes_over(&self) -> bool {
-        self.waits && self.slot == 0
+        self.plan_waits() && self.slot == 0
     }
 
     /// The plan that the next step chooses by.
@@ -192,7 +197,7 @@ impl Switch {
     /// Number 12. What stands in the places for ports from N up is not looked at.
     pub fn check(&self) -> Result<(), Refusal> {
         let plans_hold = self.running.is_accepted()
-            && (!self.waits
+            && (!self.plan_waits()
                 || (self.waiting.ports, self.waiting.frame) == (self.running.ports, self.running.frame)
                     && self.waiting.is_accepted());
         let holds = plans_hold
@@ -246,7 +251,7 @@ impl Switch {
     fn take_over(&mut self) {
         self.running.set(self.waiting.ports, self.waiting.frame, self.waiting.used_rates());
         self.waiting.clear();
-        self.waits = false;
+        self.waits = 0;
     }
 
     fn move_cells(&mut self, choices: &Choices, store: &[u32], answer: &mut SlotAnswer) {
@@ -254,7 +259,7 @@ impl Switch {
             let Some(output) = choices.boards[input] else { continue };
             let flow = self.flow(input, output);
             let queue = &mut self.queues[flow];
-            answer.boards[input] = if queue.count == 0 {
+            answer.moves[input] = if queue.count == 0 {
                 Port::Empty { other: output }
             } else {
                 let cell = store[flow * self.depth + usize::from(queue.place)];
@@ -269,7 +274,7 @@ impl Switch {
         for output in 0..self.ports() {
             let Some(input) = choices.heads[output] else { continue };
             let flow = self.flow(input, output);
-            answer.heads[output] = match self.crosspoints[flow].take() {
+            answer.sends[output] = match self.crosspoints[flow].take() {
                 None => Port::Empty { other: input },
                 Some(cell) => Port::Moved { other: input, cell },
             };

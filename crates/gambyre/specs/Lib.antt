@@ -1,2 +1,3 @@
 pub mod Records
+pub mod Version
 pub mod Written

@@ -7,10 +7,11 @@ ghost use Rattle.plan.specs.Desk.{deskOf};
 ghost use Rattle.regulator.specs.Scale.{scaleOf};
 ghost use Rattle.regulator.specs.Boost.{boostOf};
 ghost use Rattle.planfile.specs.Read.{readOf};
-ghost use Rattle.gambyre.specs.Records.{readingRecord};
+ghost use Rattle.gambyre.specs.Records.{isSet, readingRecord};
 ghost use Rattle.gambyre.specs.Written.{numbered, outcomeRecord, viewRecord};
 use crate::records::ReadingRecord;
 use crate::records::reading_record;
+use crate::records::verdict_number;
 use plan::acceptance::accept;
 use plan::desk::desk_view;
 use planfile::read;
@@ -18,11 +19,10 @@ use regulator::boost::boost;
 use regulator::scale::scale;
 
 #[no_mangle]
-pub extern "C" fn gambyre_accept(n: usize, t: u32, rates: &[u16]) -> u8
+pub extern "C" fn gambyre_accept(n: usize, t: u32, rates: &[u16]) -> u32
     ensures { λ r. ⌜ r ≡ verdictNumberOf (acceptOf n t (now (rates .entry))) ⌝ }
 {
-    let verdict = accept(n, t, rates);
-    verdict.number()
+    verdict_number(accept(n, t, rates))
 }
 
 fn smaller(a: usize, b: usize) -> usize
@@ -48,28 +48,26 @@ pub extern "C" fn gambyre_desk_view<'a>(
     waiting: &'a [u16],
     n: usize,
     i: usize,
-    takeover: bool,
+    takeover: u32,
     out: &mut [u16],
 ) -> usize
-    ensures { λ r. ⌜ numbered r (now (out .exit)) ≡ viewRecord (deskOf (now (running .entry)) (now (waiting .entry)) n i takeover) (now (out .entry)) ⌝ }
+    ensures { λ r. ⌜ numbered r (now (out .exit)) ≡ viewRecord (deskOf (now (running .entry)) (now (waiting .entry)) n i (isSet takeover)) (now (out .entry)) ⌝ }
 {
-    copy_row(desk_view(running, waiting, n, i, takeover), out)
+    copy_row(desk_view(running, waiting, n, i, takeover != 0), out)
 }
 
 #[no_mangle]
-pub extern "C" fn gambyre_scale(n: usize, t: u32, demands: &[u16], rates: &mut [u16]) -> u8
+pub extern "C" fn gambyre_scale(n: usize, t: u32, demands: &[u16], rates: &mut [u16]) -> u32
     ensures { λ r. ⌜ numbered r (now (rates .exit)) ≡ outcomeRecord (scaleOf n t (now (demands .entry)) (now (rates .entry))) ⌝ }
 {
-    let verdict = scale(n, t, demands, rates);
-    verdict.number()
+    verdict_number(scale(n, t, demands, rates))
 }
 
 #[no_mangle]
-pub extern "C" fn gambyre_boost(n: usize, t: u32, given: &[u16], rates: &mut [u16]) -> u8
+pub extern "C" fn gambyre_boost(n: usize, t: u32, given: &[u16], rates: &mut [u16]) -> u32
     ensures { λ r. ⌜ numbered r (now (rates .exit)) ≡ outcomeRecord (boostOf n t (now (given .entry)) (now (rates .entry))) ⌝ }
 {
-    let verdict = boost(n, t, given, rates);
-    verdict.number()
+    verdict_number(boost(n, t, given, rates))
 }
 
 #[no_mangle]

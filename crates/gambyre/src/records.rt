@@ -1,5 +1,7 @@
-// What the exported functions answer: the operations' answers with numbers in the place of their cases.
+// What the exported functions answer: the operations' answers with numbers in the place of their cases. Verdicts and
+// kinds are enums in the header, and an enum of C has 32 bits.
 ghost use mathlib.Core.Path.{_≡_};
+ghost use Rattle.refusal.specs.Number.{verdictNumberOf};
 ghost use Rattle.gambyre.specs.Records.{answerRecord, portRecords, choiceRecord, choiceIn, replyRecord, slotRecord, readingRecord};
 use crossbar::state::Reply;
 use crossbar::state::SlotReply;
@@ -10,23 +12,24 @@ use multiplexer::Choice;
 use plan::Plan;
 use plan::range::MOST_PORTS;
 use planfile::Reading;
+use refusal::Verdict;
 
 // The kinds of a port's answer.
-const IDLE: u8 = 0;
+const IDLE: u32 = 0;
 
-const EMPTY: u8 = 1;
+const EMPTY: u32 = 1;
 
-const MOVED: u8 = 2;
+const MOVED: u32 = 2;
 
 // The kinds of a choice.
-const NO_FLOW: u8 = 0;
+const NO_FLOW: u32 = 0;
 
-const FLOW: u8 = 1;
+const FLOW: u32 = 1;
 
 // A port's answer. What a kind does not have is 0.
 #[repr(C)]
 pub struct PortRecord {
-    pub kind: u8,
+    pub kind: u32,
     pub other: usize,
     pub cell: u32,
 }
@@ -34,19 +37,19 @@ pub struct PortRecord {
 // A multiplexer's choice.
 #[repr(C)]
 pub struct ChoiceRecord {
-    pub kind: u8,
+    pub kind: u32,
     pub flow: usize,
 }
 
 #[repr(C)]
 pub struct ReplyRecord {
-    pub verdict: u8,
+    pub verdict: u32,
     pub state: Switch,
 }
 
 #[repr(C)]
 pub struct SlotRecord {
-    pub verdict: u8,
+    pub verdict: u32,
     pub state: Switch,
     pub moves: [PortRecord; MOST_PORTS],
     pub sends: [PortRecord; MOST_PORTS],
@@ -54,8 +57,14 @@ pub struct SlotRecord {
 
 #[repr(C)]
 pub struct ReadingRecord {
-    pub verdict: u8,
+    pub verdict: u32,
     pub plan: Plan,
+}
+
+pub fn verdict_number(verdict: Verdict) -> u32
+    ensures { λ r. ⌜ r ≡ verdictNumberOf verdict ⌝ }
+{
+    verdict.number() as u32
 }
 
 fn port_record(port: Port) -> PortRecord
@@ -125,7 +134,7 @@ pub fn reply_record(reply: Reply) -> ReplyRecord
     let verdict = reply.verdict;
     let state = reply.state;
     ReplyRecord {
-        verdict: verdict.number(),
+        verdict: verdict_number(verdict),
         state,
     }
 }
@@ -138,7 +147,7 @@ pub fn slot_record(reply: SlotReply) -> SlotRecord
     let moves = reply.moves;
     let sends = reply.sends;
     SlotRecord {
-        verdict: verdict.number(),
+        verdict: verdict_number(verdict),
         state,
         moves: port_records(moves),
         sends: port_records(sends),
@@ -151,7 +160,7 @@ pub fn reading_record(reading: Reading) -> ReadingRecord
     let verdict = reading.verdict;
     let plan = reading.plan;
     ReadingRecord {
-        verdict: verdict.number(),
+        verdict: verdict_number(verdict),
         plan,
     }
 }

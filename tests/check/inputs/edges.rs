@@ -16,6 +16,11 @@ const LENGTHS: [usize; 9] = [0, 1, 4, 16, 255, 256, 257, 289, 65_536];
 const DEPTHS: [usize; 9] = [0, 1, 2, 63, 64, 65, 256, 1 << 32, usize::MAX];
 const COUNTS: [u16; 6] = [0, 1, 2, 4095, 4096, u16::MAX];
 
+/// What C can hand over for a yes or no: every byte, and numbers whose low bytes are 0.
+fn flags() -> impl Iterator<Item = u32> {
+    (0..256).chain([256, 65_536, 1 << 31, u32::MAX])
+}
+
 impl<S: Operations> Inputs<'_, S> {
     /// Lists with which N and T are tried: of all lengths, and of the right one with all kinds of sums.
     fn edge_lists(&mut self, ports: usize, frame: u32) -> Vec<Vec<u16>> {
@@ -85,11 +90,14 @@ impl<S: Operations> Inputs<'_, S> {
                 let waiting = self.random.rates(waiting_length, u16::MAX);
                 for input in [0, 1, ports.wrapping_sub(1), ports, ports.wrapping_add(1), 1 << 32, usize::MAX] {
                     for out_length in [0, 1, MOST_PORTS - 1, MOST_PORTS, 256] {
-                        self.desk_view(&running, &waiting, ports, input, false, out_length)?;
-                        self.desk_view(&running, &waiting, ports, input, true, out_length)?;
+                        self.desk_view(&running, &waiting, ports, input, 0, out_length)?;
+                        self.desk_view(&running, &waiting, ports, input, 1, out_length)?;
                     }
                 }
             }
+        }
+        for takeover in flags() {
+            self.desk_view(&[1, 2, 3, 4], &[5, 6, 7, 8], 2, 1, takeover, 2)?;
         }
         Ok(())
     }
@@ -118,6 +126,9 @@ impl<S: Operations> Inputs<'_, S> {
             self.count(&multiplexer, Choice { kind: 0, flow: 0 })?;
             for flow in (0..20).chain([255, 256, 65_535, 65_536, 1 << 32, usize::MAX]) {
                 self.count(&multiplexer, Choice { kind: 1, flow })?;
+            }
+            for kind in flags() {
+                self.count(&multiplexer, Choice { kind, flow: 3 })?;
             }
             for ports in (0..20).chain(PORTS) {
                 self.end_frame(&multiplexer, ports)?;

@@ -44,7 +44,8 @@ impl<S: Operations> Inputs<'_, S> {
         let ports = self.random.within(1, 16);
         let running = self.random.rates(ports * ports, u16::MAX);
         let waiting = self.random.rates(ports * ports, u16::MAX);
-        let (input, takeover) = (self.random.below(ports), self.random.flip());
+        let input = self.random.below(ports);
+        let takeover = if self.random.flip() { self.random.next() as u32 } else { 0 };
         let out_length = self.random.within(0, 20);
         self.desk_view(&running, &waiting, ports, input, takeover, out_length)
     }

@@ -7,11 +7,11 @@ use Rattle.gambyre.proofs.plans.gambyre_accept.Tie as tie
 accept-requires : tie.Need-accept-requires
 accept-requires c κs = search needs
 
-number-requires : tie.Need-number-requires
-number-requires c κs = search needs
+verdict-number-requires : tie.Need-verdict-number-requires
+verdict-number-requires c κs = search needs
 
 returns : tie.Need-returns
-returns c = c .number .ensures ∙ ap verdictNumberOf (c .before .accept .ensures)
+returns c = c .verdict-number .ensures ∙ ap verdictNumberOf (c .before .accept .ensures)
 
 pub gambyre-accept-spec : {M : Type 1} → statement M
-gambyre-accept-spec = tie.close (tie.spec accept-requires number-requires returns)
+gambyre-accept-spec = tie.close (tie.spec accept-requires verdict-number-requires returns)

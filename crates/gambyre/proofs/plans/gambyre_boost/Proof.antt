@@ -7,14 +7,14 @@ use Rattle.gambyre.proofs.plans.gambyre_boost.Tie as tie
 boost-requires : tie.Need-boost-requires
 boost-requires c κs = search needs
 
-number-requires : tie.Need-number-requires
-number-requires c κs = search needs
+verdict-number-requires : tie.Need-verdict-number-requires
+verdict-number-requires c κs = search needs
 
 same-length : tie.Need-same-length
 same-length c = search needs
 
 returns : tie.Need-returns
-returns c = rw (c .number .ensures) (ap outcomeRecord (c .before .before .before .boost .ensures))
+returns c = rw (c .verdict-number .ensures) (ap outcomeRecord (c .before .before .before .boost .ensures))
 
 pub gambyre-boost-spec : {M : Type 1} → statement M
-gambyre-boost-spec = tie.close (tie.spec boost-requires number-requires same-length returns)
+gambyre-boost-spec = tie.close (tie.spec boost-requires verdict-number-requires same-length returns)

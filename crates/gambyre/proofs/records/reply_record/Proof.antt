@@ -3,11 +3,11 @@ use mathlib.Core.Path.{refl}
 use Rattle.gambyre.proofs.records.reply_record.Statement.{statement}
 use Rattle.gambyre.proofs.records.reply_record.Tie as tie
 
-number-requires : tie.Need-number-requires
-number-requires c κs = search needs
+verdict-number-requires : tie.Need-verdict-number-requires
+verdict-number-requires c κs = search needs
 
 returns : tie.Need-returns
-returns c = rw (c .number .ensures) refl
+returns c = rw (c .verdict-number .ensures) refl
 
 pub reply-record-spec : {M : Type 1} → statement M
-reply-record-spec = tie.close (tie.spec number-requires returns)
+reply-record-spec = tie.close (tie.spec verdict-number-requires returns)

@@ -3,8 +3,8 @@ use mathlib.Core.Path.{refl}
 use Rattle.gambyre.proofs.records.slot_record.Statement.{statement}
 use Rattle.gambyre.proofs.records.slot_record.Tie as tie
 
-number-requires : tie.Need-number-requires
-number-requires c κs = search needs
+verdict-number-requires : tie.Need-verdict-number-requires
+verdict-number-requires c κs = search needs
 
 port-records-requires : tie.Need-port-records-requires
 port-records-requires c κs = search needs
@@ -13,8 +13,8 @@ port-records-requires-2 : tie.Need-port-records-requires-2
 port-records-requires-2 c κs = search needs
 
 returns : tie.Need-returns
-returns c = rw (c .before .before .number .ensures, c .before .port-records .ensures, c .port-records2 .ensures) refl
+returns c = rw (c .before .before .verdict-number .ensures, c .before .port-records .ensures, c .port-records2 .ensures) refl
 
 pub slot-record-spec : {M : Type 1} → statement M
 slot-record-spec =
-    tie.close (tie.spec number-requires port-records-requires port-records-requires-2 returns)
+    tie.close (tie.spec verdict-number-requires port-records-requires port-records-requires-2 returns)
