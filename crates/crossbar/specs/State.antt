@@ -1,9 +1,10 @@
 -- The parts of the state by flow and port.
 use Prim.Native.Nat.{ℕ, _*_}
-use mathlib.Core.Bool.{Bool, not, _&&_}
+use mathlib.Core.Bool.{Bool, _&&_}
 use mathlib.Core.List.{List}
 use lib.Dec.{leb, eqb}
 use lib.ListN.{getD, take}
+use Rattle.plan.specs.Flag.{isSet}
 use Rattle.plan.specs.Lines.{flowOf}
 use Rattle.plan.specs.declared.Plan.{Plan}
 use Rattle.fabric.specs.Flow.{mostDepth, noQueue, noPoint, noMultiplexer}
@@ -11,9 +12,9 @@ use Rattle.fabric.specs.declared.flow.Queue.{Queue}
 use Rattle.fabric.specs.declared.flow.Crosspoint.{Crosspoint}
 use Rattle.crossbar.specs.declared.state.Switch.{Switch}
 
--- 0 says that no plan waits; every other number that a hand-made state may hold says that one does
+-- whether a plan waits: "none waits" is 0, and a state made by hand may hold any other number
 abbrev pub hasWaiting : Switch → Bool
-hasWaiting s = not (eqb (s .waits) 0)
+hasWaiting s = isSet (s .waits)
 
 abbrev pub queueAt : Switch → ℕ → Queue
 queueAt s k = getD (s .queues) k noQueue

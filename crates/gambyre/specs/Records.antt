@@ -1,7 +1,7 @@
 -- The operations' answers as plain records: numbers stand in the place of cases. A verdict is its number by
 -- `verdictNumberOf`, a port's kind its number by `kindOf`.
 use Prim.Native.Nat.{ℕ, zero, suc}
-use mathlib.Core.Bool.{Bool, cond, not}
+use mathlib.Core.Bool.{cond}
 use mathlib.Core.List.{List}
 use lib.Dec.{eqb}
 use lib.ListN.{set, replicate}
@@ -21,10 +21,6 @@ use Rattle.gambyre.specs.declared.records.ChoiceRecord.{ChoiceRecord}
 use Rattle.gambyre.specs.declared.records.ReplyRecord.{ReplyRecord}
 use Rattle.gambyre.specs.declared.records.SlotRecord.{SlotRecord}
 use Rattle.gambyre.specs.declared.records.ReadingRecord.{ReadingRecord}
-
--- a yes or no that a caller hands over: 0 is no, every other number yes
-abbrev pub isSet : ℕ → Bool
-isSet b = not (eqb b 0)
 
 -- "idle; empty (served, nothing to move), with the other port; moved, with the other port and the cell": the other port,
 -- 0 where an answer has none

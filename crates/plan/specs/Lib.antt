@@ -1,4 +1,5 @@
 pub mod Below
+pub mod Flag
 pub mod Lines
 pub mod Range
 pub mod Accept
