@@ -1,5 +1,4 @@
 pub mod DigitLaws
 pub mod TextLaws
 pub mod PrintoutLaws
-pub mod CutLaws
 pub mod Examples
