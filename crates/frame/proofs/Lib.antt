@@ -1,4 +1,5 @@
 pub mod DigitLaws
 pub mod TextLaws
 pub mod PrintoutLaws
+pub mod RoomLaws
 pub mod Examples
