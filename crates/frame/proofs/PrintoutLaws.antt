@@ -1,7 +1,7 @@
 -- The printout by what reader, start and step answer: each verdict decides how it goes on.
 use Prim.Native.Nat.{ℕ, suc, _+_, _*_, _-_, _<_, _≤_}
 use mathlib.Core.List.{List, [], _++_}
-use mathlib.Core.Path.{_≡_, refl, ap, subst, _∙_}
+use mathlib.Core.Path.{_≡_, refl, ap, sym, subst, _∙_}
 use native.Mathlib.Numerals.{add-one}
 use native.Mathlib.Omega.{arith}
 use lib.ListN.{take, replicate, length-replicate, replicate-append-replicate}
@@ -16,6 +16,7 @@ use Rattle.plan.proofs.LineLaws.{square-small}
 use Rattle.planfile.specs.Read.{readOf}
 use Rattle.planfile.specs.declared.Reading.{Reading}
 use Rattle.planfile.proofs.CutLaws.{read-cut}
+use Rattle.planfile.proofs.ReadLaws.{accepted-plan}
 use Rattle.crossbar.specs.State.{planRates}
 use Rattle.crossbar.specs.Start.{startOf}
 use Rattle.crossbar.specs.Step.{stepOf}
@@ -71,6 +72,10 @@ pub by-reading : (file : List ℕ) (r : Reading) → r ≡ readOf file
     → Decided (r .verdict) (printoutOf file) (framePrintoutOf (r .plan)) (refusalLineOf (r .verdict))
 unfolding printoutOf
 by-reading file r is = decided (r .verdict) _ _ _ (rw is refl)
+
+-- an accepted file has a plan that the program's arrays have room for
+pub few-ports : (file : List ℕ) (r : Reading) → r ≡ readOf file → r .verdict ≡ Accepted → r .plan .ports ≤ mostPorts
+few-ports file r is = subst (λ (s : Reading). s .verdict ≡ Accepted → s .plan .ports ≤ mostPorts) (sym is) (λ e. accepted-plan file e .is-plan .few-ports)
 
 -- what the program reads of a file is enough
 pub printout-cut : (file : List ℕ) → printoutOf (take mostInput file) ≡ printoutOf file

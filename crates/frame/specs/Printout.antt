@@ -46,6 +46,7 @@ lineEnd = 10 ∷ []
 abbrev pub namesOf : List ℕ → ℕ → List ℕ
 namesOf side n = textBelow (λ p. side ++ decimalOf p) n
 
+-- "The header names the ports below N as shown"
 unfoldable pub headerOf : ℕ → List ℕ
 headerOf n = slotName ++ namesOf inputName n ++ namesOf outputName n ++ lineEnd
 
@@ -63,13 +64,16 @@ choiceOf (Moved other cell) = chosenOf other
 abbrev pub sideChoicesOf : List Port → ℕ → List ℕ
 sideChoicesOf ports n = textBelow (λ p. choiceOf (answerOf ports p)) n
 
+-- "a line a slot with the slot, the output chosen by each input, the input chosen by each output"
 unfoldable pub slotLineOf : ℕ → List Port → List Port → ℕ → List ℕ
 slotLineOf slot boards heads n = decimalOf slot ++ sideChoicesOf boards n ++ sideChoicesOf heads n ++ lineEnd
 
+-- "prints "refused", a space and its number"
 unfoldable pub refusalLineOf : Verdict → List ℕ
 refusalLineOf v = refusedName ++ decimalOf (verdictNumberOf v) ++ lineEnd
 
--- the lines of the next slots, `left` of them, up to a refusal; each step gets the state that the last one returned
+-- the lines of the slots from `slot` on, `left` of them: each step gets the state that the last one returned, and "the
+-- program stops at the first refusal"
 unfoldable pub slotLinesOf : Switch → List ℕ → ℕ → ℕ → ℕ → List ℕ
 slotLinesOf s store n slot zero = []
 slotLinesOf s store n slot (suc left) =
@@ -78,8 +82,8 @@ slotLinesOf s store n slot (suc left) =
     (slotLineOf slot (done .moves) (done .sends) n ++ slotLinesOf (done .state) store n (suc slot) left)
     (refusalLineOf (done .verdict))
 
--- one frame of a plan from a fresh start. No cell arrives, and "neither queues nor crossings are looked at" by a choice:
--- a store for Q = 1 will do.
+-- "a header, then a line a slot" of one frame from a fresh start. No cell arrives, and "neither queues nor crossings are
+-- looked at" by a choice: a store for Q = 1 will do.
 unfoldable pub framePrintoutOf : Plan → List ℕ
 framePrintoutOf plan =
     let n = plan .ports in
@@ -89,6 +93,7 @@ framePrintoutOf plan =
     (headerOf n ++ slotLinesOf (started .state) store n 0 (plan .frame))
     (refusalLineOf (started .verdict))
 
+-- what the program prints of the file with these bytes
 unfoldable pub printoutOf : List ℕ → List ℕ
 printoutOf file =
     let reading = readOf file in

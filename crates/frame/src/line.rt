@@ -25,11 +25,11 @@ fn number(out: &mut [u8], at: usize, value: u64) -> usize
 }
 
 // The names of the ports of one side.
-fn names(out: &mut [u8], start: usize, side: &[u8], n: usize) -> usize
-    requires { ⌜ HasRoom (now out) start (namesOf (now side) n) ⌝ }
-    ensures { λ r. ⌜ Written (now (out .entry)) start (namesOf (now (side .entry)) n) (now (out .exit)) r ⌝ }
+fn names(out: &mut [u8], from: usize, side: &[u8], n: usize) -> usize
+    requires { ⌜ HasRoom (now out) from (namesOf (now side) n) ⌝ }
+    ensures { λ r. ⌜ Written (now (out .entry)) from (namesOf (now (side .entry)) n) (now (out .exit)) r ⌝ }
 {
-    let mut at = start;
+    let mut at = from;
     for port in 0..n {
         at = put(out, at, side);
         at = number(out, at, port as u64);
@@ -59,11 +59,11 @@ fn choice(out: &mut [u8], at: usize, port: Port) -> usize
 }
 
 // The choices of the ports of one side.
-fn choices(out: &mut [u8], start: usize, ports: [Port; MOST_PORTS], n: usize) -> usize
-    requires { ⌜ (n ≤ mostPorts) × HasRoom (now out) start (sideChoicesOf ports n) ⌝ }
-    ensures { λ r. ⌜ Written (now (out .entry)) start (sideChoicesOf ports n) (now (out .exit)) r ⌝ }
+fn choices(out: &mut [u8], from: usize, ports: [Port; MOST_PORTS], n: usize) -> usize
+    requires { ⌜ (n ≤ mostPorts) × HasRoom (now out) from (sideChoicesOf ports n) ⌝ }
+    ensures { λ r. ⌜ Written (now (out .entry)) from (sideChoicesOf ports n) (now (out .exit)) r ⌝ }
 {
-    let mut at = start;
+    let mut at = from;
     for p in 0..n {
         let port = ports[p];
         at = choice(out, at, port);

@@ -48,8 +48,8 @@ fn main() {
         return;
     };
     let mut out = [0u8; PRINTOUT_ROOM];
-    let end = printout(&file[..len], &mut out);
-    if !io::write_all(STDOUT_FILENO, &out[..end]) {
+    let count = printout(&file[..len], &mut out);
+    if !io::write_all(STDOUT_FILENO, &out[..count]) {
         os::fail(b"standard output");
     }
 }

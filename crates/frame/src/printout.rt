@@ -27,17 +27,17 @@ pub const PRINTOUT_ROOM: usize = HEADER_ROOM + MOST_SLOTS as usize * SLOT_LINE_R
 // The lines of the slots of a frame, up to the first refusal.
 fn slot_lines(
     out: &mut [u8],
-    start: usize,
+    from: usize,
     fresh: Switch,
     store: &[u32],
     n: usize,
     frame: u32,
 ) -> usize
-    requires { ⌜ (n ≤ mostPorts) × HasRoom (now out) start (slotLinesOf fresh (now store) n 0 frame) ⌝ }
-    ensures { λ r. ⌜ Written (now (out .entry)) start (slotLinesOf fresh (now (store .entry)) n 0 frame) (now (out .exit)) r ⌝ }
+    requires { ⌜ (n ≤ mostPorts) × HasRoom (now out) from (slotLinesOf fresh (now store) n 0 frame) ⌝ }
+    ensures { λ r. ⌜ Written (now (out .entry)) from (slotLinesOf fresh (now (store .entry)) n 0 frame) (now (out .exit)) r ⌝ }
 {
     let mut state = fresh;
-    let mut at = start;
+    let mut at = from;
     for slot in 0..frame {
         let done = state.step(store);
         let verdict = done.verdict;

@@ -10,10 +10,10 @@ use Rattle.frame.proofs.line.choices.Statement.{statement}
 use Rattle.frame.proofs.line.choices.Tie as tie
 
 abbrev Inv-loop : tie.InvT-loop
-Inv-loop out₀ start n ports at₀ p₀ out at p = (p ≤ n) × (length out ≡ length out₀) × Written out₀ start (sideChoicesOf ports p) out at
+Inv-loop out₀ from n ports at₀ p₀ out at p = (p ≤ n) × (length out ≡ length out₀) × Written out₀ from (sideChoicesOf ports p) out at
 
 abbrev μ-loop : tie.MeasureT-loop
-μ-loop out₀ start n ports at₀ p₀ out at p = n - p
+μ-loop out₀ from n ports at₀ p₀ out at p = n - p
 
 loop-holds : tie.Need-loop-holds Inv-loop μ-loop
 unfolding textBelow

@@ -11,10 +11,10 @@ use Rattle.frame.proofs.line.names.Statement.{statement}
 use Rattle.frame.proofs.line.names.Tie as tie
 
 abbrev Inv-loop : tie.InvT-loop
-Inv-loop out₀ start side n at₀ port₀ out at port = (port ≤ n) × (length out ≡ length out₀) × Written out₀ start (namesOf side port) out at
+Inv-loop out₀ from side n at₀ port₀ out at port = (port ≤ n) × (length out ≡ length out₀) × Written out₀ from (namesOf side port) out at
 
 abbrev μ-loop : tie.MeasureT-loop
-μ-loop out₀ start side n at₀ port₀ out at port = n - port
+μ-loop out₀ from side n at₀ port₀ out at port = n - port
 
 -- the name of one port
 abbrev name : List ℕ → ℕ → List ℕ

@@ -51,7 +51,9 @@ enum-told-2 : tie.Need-enum-told-2
 enum-told-2 c = search needs
 
 refusal-line-requires : tie.Need-refusal-line-requires
-refusal-line-requires c κs = room-as (c .before .before .before .before .before .before .before .before .pre .1) (started (c .before .before .before) .refused (c .before .enum-told2 .given .1))
+refusal-line-requires c κs =
+    let after = c .before .before .before in
+    room-as (after .before .before .before .before .before .pre .1) (started after .refused (c .before .enum-told2 .given .1))
 
 same-length : tie.Need-same-length
 same-length c = search needs
@@ -60,20 +62,24 @@ returns : tie.Need-returns
 returns c = written-as (c .before .before .refusal-line .ensures) (sym (started (c .before .before .before .before .before .before) .refused (c .before .before .before .before .enum-told2 .given .1)))
 
 header-requires : tie.Need-header-requires
-header-requires c κs = room-first _ _ (room-as (c .before .before .before .before .before .before .before .before .pre .1) (started (c .before .before .before) .accepted (c .before .enum-told .given .1)))
+header-requires c κs =
+    let after = c .before .before .before in
+    room-first _ _ (room-as (after .before .before .before .before .before .pre .1) (started after .accepted (c .before .enum-told .given .1)))
 
 slot-lines-requires : tie.Need-slot-lines-requires
-slot-lines-requires c κs = (
-  c .before .before .before .before .before .before .before .before .before .before .before .before .before .pre .0,
-  room-next _ _ (room-as (c .before .before .before .before .before .before .before .before .before .before .before .before .before .pre .1) (started (c .before .before .before .before .before .before .before .before) .accepted (c .before .before .before .before .before .before .enum-told .given .1))) (c .before .before .before .before .header .ensures) (c .before .before .before .before .header .kept .0),
-)
+slot-lines-requires c κs =
+    let header = c .before .before .before .before .header in
+    let after = c .before .before .before .before .before .before .before .before in
+    let pre = after .before .before .before .before .before .pre in
+    (pre .0, room-next _ _ (room-as (pre .1) (started after .accepted (c .before .before .before .before .before .before .enum-told .given .1))) (header .ensures) (header .kept .0))
 
 same-length-2 : tie.Need-same-length-2
 same-length-2 c = search needs
 
 returns-2 : tie.Need-returns-2
 returns-2 c =
-    written-as (written-on (c .before .before .before .before .before .before .before .header .ensures) (c .before .before .slot-lines .ensures)) (sym (started (c .before .before .before .before .before .before .before .before .before .before .before) .accepted (c .before .before .before .before .before .before .before .before .before .enum-told .given .1)))
+    let both = written-on (c .before .before .before .before .before .before .before .header .ensures) (c .before .before .slot-lines .ensures) in
+    written-as both (sym (started (c .before .before .before .before .before .before .before .before .before .before .before) .accepted (c .before .before .before .before .before .before .before .before .before .enum-told .given .1)))
 
 pub frame-printout-spec : {M : Type 1} → statement M
 frame-printout-spec =

@@ -1,12 +1,8 @@
 use borrow.Author.Needs.{needs}
-use Prim.Native.Nat.{_≤_}
-use mathlib.Core.Path.{ap, sym, subst, _∙_}
-use Rattle.plan.specs.Range.{mostPorts}
-use Rattle.planfile.specs.declared.Reading.{Reading}
-use Rattle.planfile.proofs.ReadLaws.{accepted-plan}
+use mathlib.Core.Path.{sym}
 use Rattle.frame.specs.Printout.{refusalLineOf, framePrintoutOf, printoutOf}
 use Rattle.frame.proofs.TextLaws.{room-as, written-as}
-use Rattle.frame.proofs.PrintoutLaws.{Decided, by-reading}
+use Rattle.frame.proofs.PrintoutLaws.{Decided, by-reading, few-ports}
 use Rattle.frame.proofs.RoomLaws.{printout-room, prints}
 use Rattle.frame.proofs.printout.printout.Statement.{statement}
 use Rattle.frame.proofs.printout.printout.Tie as tie
@@ -36,12 +32,9 @@ returns c =
 
 frame-printout-requires : tie.Need-frame-printout-requires
 frame-printout-requires c κs =
-    let r = c .before .before .before .before in
-    let e = r .read .ensures in
-    let accepted = c .before .before .enum-told .given .1 in (
-      subst (λ (r : Reading). r .plan .ports ≤ mostPorts) (sym e) (accepted-plan _ (sym (ap (λ (r : Reading). r .verdict) e) ∙ accepted) .is-plan .few-ports),
-      room-as (printout-room _ _ (c .frame-printout-arg .given .0 .1)) (reading r .accepted accepted),
-    )
+    let after = c .before .before .before .before in
+    let e = c .before .before .enum-told .given .1 in
+    (few-ports _ _ (after .read .ensures) e, room-as (printout-room _ _ (c .frame-printout-arg .given .0 .1)) (reading after .accepted e))
 
 returns-2 : tie.Need-returns-2
 returns-2 c =

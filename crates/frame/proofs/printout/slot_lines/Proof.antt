@@ -12,13 +12,13 @@ use Rattle.frame.proofs.printout.slot_lines.Statement.{statement}
 use Rattle.frame.proofs.printout.slot_lines.Tie as tie
 
 abbrev Inv-loop : tie.InvT-loop
-Inv-loop out₀ start store n frame state₀ at₀ slot₀ out state at slot =
-    Begun out₀ start (slotLinesOf state₀ store n 0 frame) (slotLinesOf state store n slot (frame - slot)) out at
+Inv-loop out₀ from store n frame state₀ at₀ slot₀ out state at slot =
+    Begun out₀ from (slotLinesOf state₀ store n 0 frame) (slotLinesOf state store n slot (frame - slot)) out at
     × (length out ≡ length out₀)
     × (slot ≤ frame)
 
 abbrev μ-loop : tie.MeasureT-loop
-μ-loop out₀ start store n frame state₀ at₀ slot₀ out state at slot = frame - slot
+μ-loop out₀ from store n frame state₀ at₀ slot₀ out state at slot = frame - slot
 
 -- the lines that are left at a turn's step
 abbrev left : tie.After-step Inv-loop μ-loop → List ℕ
