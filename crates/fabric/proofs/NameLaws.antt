@@ -36,7 +36,7 @@ NamesPort answer.Idle = Unit {0}
 NamesPort (answer.Empty other) = other < mostPorts
 NamesPort (answer.Moved other cell) = other < mostPorts
 
--- what holds of every place of a list, and of the value that is put into one, holds of every place afterwards
+-- what holds at a place of a list, and of a value that is put somewhere into it, holds at that place afterwards
 set-keeps : {A : Type 0} (P : A → Type 0) (l : List A) (m p : ℕ) (v d : A) → P v → P (getD l p d) → P (getD (set l m v) p d)
 set-keeps P [] m p v d put was = was
 set-keeps P (x ∷ l) zero zero v d put was = put
@@ -44,7 +44,7 @@ set-keeps P (x ∷ l) zero (suc p) v d put was = was
 set-keeps P (x ∷ l) (suc m) zero v d put was = was
 set-keeps P (x ∷ l) (suc m) (suc p) v d put was = set-keeps P l m p v d put was
 
--- and what holds of one value, of every place of a list that holds nothing else
+-- and what holds of one value, at every place of a list that holds nothing else
 repeated-is : {A : Type 0} (P : A → Type 0) (n p : ℕ) (v : A) → P v → P (getD (replicate n v) p v)
 repeated-is P n p v h = subst P (sym (getD-repeated n p v)) h
 
