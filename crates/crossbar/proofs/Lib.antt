@@ -9,3 +9,4 @@ pub mod LoadLaws
 pub mod TakeoverLaws
 pub mod StepLaws
 pub mod IdleLaws
+pub mod AnswerLaws

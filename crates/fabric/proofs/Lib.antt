@@ -5,3 +5,4 @@ pub mod ChoiceLaws
 pub mod MoveLaws
 pub mod SendLaws
 pub mod CountLaws
+pub mod NameLaws

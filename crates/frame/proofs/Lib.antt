@@ -1,5 +1,5 @@
 pub mod DigitLaws
 pub mod TextLaws
 pub mod PrintoutLaws
-pub mod CutLaws
+pub mod RoomLaws
 pub mod Examples

@@ -23,8 +23,8 @@ fn case_11() {
 }
 
 fn plan_rows() {
-    ports(16, &[0; 256]);
-    ports(17, &[0; 289]);
+    ports(16, &[0; 16 * 16]);
+    ports(17, &[0; 17 * 17]);
     frame(1);
     frame(0);
     plan(b"N = 2, 4 rates", 2, 3, &[0; 4]);

@@ -1,3 +1,4 @@
 pub mod LayoutLaws
 pub mod ReadLaws
+pub mod CutLaws
 pub mod Examples

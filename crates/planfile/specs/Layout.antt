@@ -6,7 +6,7 @@ use mathlib.Core.Bool.{Bool, _&&_}
 use mathlib.Core.List.{List, [], _∷_, _++_}
 use lib.Dec.{eqb}
 use lib.ListN.{length, getD, replicate}
-use Rattle.plan.specs.Range.{mostFlows}
+use Rattle.plan.specs.Range.{mostPorts, mostFlows}
 
 abbrev pub byteAt : List ℕ → ℕ → ℕ
 byteAt file p = getD file p 0
@@ -31,6 +31,9 @@ frameIn file = wordAt file 6
 -- the bytes of a file for N ports
 abbrev pub fileLength : ℕ → ℕ
 fileLength n = 8 + 2 * (n * n)
+
+abbrev pub longestFile : ℕ
+longestFile = fileLength mostPorts
 
 -- the first `count` rates
 unfoldable pub ratesOf : List ℕ → ℕ → List ℕ

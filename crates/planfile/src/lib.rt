@@ -16,12 +16,16 @@ use crate::layout::rates_of;
 use plan::Plan;
 use plan::acceptance::accept;
 use plan::no_plan;
+use plan::range::MOST_FLOWS;
 use plan::range::frame_in_range;
 use plan::range::ports_in_range;
 use refusal::Refusal;
 use refusal::Verdict;
 
 mod layout;
+
+// The bytes of the longest plan file.
+pub const LONGEST_FILE: usize = HEAD + 2 * MOST_FLOWS;
 
 // The plan of an accepted file; of a refused one its numbers are all 0.
 pub struct Reading {

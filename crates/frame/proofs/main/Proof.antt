@@ -1,59 +1,85 @@
 use borrow.Author.Needs.{needs}
 use Prim.Native.Nat.{_≤_}
-use mathlib.Core.Path.{ap, sym, subst, _∙_}
-use Rattle.planfile.specs.declared.Reading.{Reading}
-use Rattle.planfile.proofs.ReadLaws.{accepted-plan}
+use mathlib.Core.Path.{refl, sym, subst}
+use lib.ListN.{length}
+use lib.Seq.{length-take-le}
+use Rattle.frame.specs.Input.{ReadWithin}
 use Rattle.frame.proofs.main.Statement.{statement}
 use Rattle.frame.proofs.main.Tie as tie
 
-slice-aggregate-read-full : tie.Need-slice-aggregate-read-full
-slice-aggregate-read-full c = search needs
+-- the bytes that were read are within the buffer
+within : (c : tie.After-len) → c .len .given .0 .0 ≤ length (c .before .before .before .read-input .last .0)
+within c = let r = c .before .before .before .read-input in subst (ReadWithin (r .last .0)) (c .len .given .1) (r .ensures)
 
-read-full-requires : tie.Need-read-full-requires
-read-full-requires c κs = search needs
+slice-aggregate-read-input : tie.Need-slice-aggregate-read-input
+slice-aggregate-read-input c = refl
 
-array-share-prefix-file : tie.Need-array-share-prefix-file
-array-share-prefix-file c = search needs
+read-input-requires : tie.Need-read-input-requires
+read-input-requires c κs = search needs
 
-slice-aggregate-read : tie.Need-slice-aggregate-read
-slice-aggregate-read c = search needs
-
-read-requires : tie.Need-read-requires
-read-requires c κs = search needs
+enum-known-len : tie.Need-enum-known-len
+enum-known-len c = search needs
 
 enum-told : tie.Need-enum-told
 enum-told c = search needs
 
-enum-told-2 : tie.Need-enum-told-2
-enum-told-2 c = search needs
+slice-aggregate-fail : tie.Need-slice-aggregate-fail
+slice-aggregate-fail c = refl
 
-print-refusal-requires : tie.Need-print-refusal-requires
-print-refusal-requires c κs = search needs
+fail-requires : tie.Need-fail-requires
+fail-requires c κs = tt
 
 returns : tie.Need-returns
-returns c = search needs
+returns c = tt
 
-print-frame-requires : tie.Need-print-frame-requires
-print-frame-requires c κs =
-    let e = c .before .before .before .read .ensures in
-    let accepted = sym (ap (λ (r : Reading). r .verdict) e) ∙ c .before .enum-told .given .1 in
-    subst (λ (r : Reading). r .plan .ports ≤ 16) (sym e) (accepted-plan _ accepted .is-plan .few-ports)
+array-share-prefix-file : tie.Need-array-share-prefix-file
+array-share-prefix-file c = within (c .before)
+
+slice-aggregate-printout : tie.Need-slice-aggregate-printout
+slice-aggregate-printout c = sym (length-take-le _ _ (within (c .before .before)))
+
+printout-requires : tie.Need-printout-requires
+printout-requires c κs = tt
+
+array-share-prefix-out : tie.Need-array-share-prefix-out
+array-share-prefix-out c = c .printout .ensures .within
+
+slice-aggregate-write-all : tie.Need-slice-aggregate-write-all
+slice-aggregate-write-all c = sym (length-take-le _ _ (c .before .printout .ensures .within))
+
+write-all-requires : tie.Need-write-all-requires
+write-all-requires c κs = tt
+
+slice-aggregate-fail-2 : tie.Need-slice-aggregate-fail-2
+slice-aggregate-fail-2 c = refl
+
+fail-requires-2 : tie.Need-fail-requires-2
+fail-requires-2 c κs = tt
 
 returns-2 : tie.Need-returns-2
-returns-2 c = search needs
+returns-2 c = tt
+
+returns-3 : tie.Need-returns-3
+returns-3 c = tt
 
 pub main-spec : {M : Type 1} → statement M
 main-spec =
     tie.close
     (tie.spec
-    slice-aggregate-read-full
-    read-full-requires
-    array-share-prefix-file
-    slice-aggregate-read
-    read-requires
+    slice-aggregate-read-input
+    read-input-requires
+    enum-known-len
     enum-told
-    enum-told-2
-    print-refusal-requires
+    slice-aggregate-fail
+    fail-requires
     returns
-    print-frame-requires
-    returns-2)
+    array-share-prefix-file
+    slice-aggregate-printout
+    printout-requires
+    array-share-prefix-out
+    slice-aggregate-write-all
+    write-all-requires
+    slice-aggregate-fail-2
+    fail-requires-2
+    returns-2
+    returns-3)

@@ -1,5 +1,4 @@
 use borrow.Author.Needs.{needs}
-use native.Mathlib.Omega.{arith}
 use Rattle.frame.proofs.TextLaws.{written-on}
 use Rattle.frame.proofs.line.chosen.Statement.{statement}
 use Rattle.frame.proofs.line.chosen.Tie as tie
@@ -17,10 +16,7 @@ same-length : tie.Need-same-length
 same-length c = search needs
 
 returns : tie.Need-returns
-returns c =
-    let first = c .before .before .before .before .before .before .put .ensures in
-    let rest = c .before .before .number .ensures in
-    (written-on first (rest .0), omega (arith, first .place, rest .1))
+returns c = written-on (c .before .before .before .before .before .before .put .ensures) (c .before .before .number .ensures)
 
 pub chosen-spec : {M : Type 1} → statement M
 chosen-spec =

@@ -1,30 +1,41 @@
 use borrow.Author.Needs.{needs}
-use Prim.Native.Nat.{_+_, _*_, _-_, _≤_}
+use Prim.Native.Nat.{ℕ, _-_, _≤_}
+use mathlib.Core.List.{List, _++_}
 use mathlib.Core.Path.{_≡_, refl, ap}
-use lib.ListN.{length}
 use native.Mathlib.Omega.{arith}
-use Rattle.frame.proofs.TextLaws.{nothing-written, written-as, written-on}
-use Rattle.frame.specs.Text.{Written}
+use lib.ListN.{length, length-append}
+use Rattle.frame.specs.Text.{decimalOf, textBelow, HasRoom, Written}
 use Rattle.frame.specs.Printout.{namesOf}
-use Rattle.frame.proofs.PrintoutLaws.{names-next}
+use Rattle.frame.proofs.TextLaws.{nothing-written, written-as, written-on, below-next, below-room}
 use Rattle.frame.proofs.line.names.Statement.{statement}
 use Rattle.frame.proofs.line.names.Tie as tie
 
 abbrev Inv-loop : tie.InvT-loop
-Inv-loop line₀ start side n at₀ port₀ line at port = (port ≤ n) × (length line ≡ length line₀) × (at ≤ start + 24 * port) × Written line₀ start (namesOf side port) line at
+Inv-loop out₀ from side n at₀ port₀ out at port = (port ≤ n) × (length out ≡ length out₀) × Written out₀ from (namesOf side port) out at
 
 abbrev μ-loop : tie.MeasureT-loop
-μ-loop line₀ start side n at₀ port₀ line at port = n - port
+μ-loop out₀ from side n at₀ port₀ out at port = n - port
+
+-- the name of one port
+abbrev name : List ℕ → ℕ → List ℕ
+name side p = side ++ decimalOf p
+
+room : (c : tie.In-loop Inv-loop μ-loop)
+    → HasRoom (c .before .loop .out) (c .before .loop .at) (name (c .before .before .before .before .args .side .now) (c .before .loop .port))
+room c =
+    let l = c .before .loop in
+    let s = c .before .before .before .before in
+    below-room (name (s .args .side .now)) (c .loop-test .taken) (s .pre) (l .inv .1) (l .inv .2)
 
 loop-holds : tie.Need-loop-holds Inv-loop μ-loop
-unfolding namesOf
-loop-holds c = (omega arith, refl, omega arith, nothing-written _ _)
+unfolding textBelow
+loop-holds c = (omega arith, refl, nothing-written _ _)
 
 put-requires : tie.Need-put-requires Inv-loop μ-loop
-put-requires c κs = search needs
+put-requires c κs = omega (arith, simp length-append at (room (c .before) .enough))
 
 number-requires : tie.Need-number-requires Inv-loop μ-loop
-number-requires c κs = search needs
+number-requires c κs = omega (arith, simp length-append at (room (c .before .before .before .before .before) .enough))
 
 add-port : tie.Need-add-port Inv-loop μ-loop
 add-port c = search needs
@@ -34,10 +45,11 @@ loop-less c = search needs
 
 loop-again : tie.Need-loop-again Inv-loop μ-loop
 loop-again c =
-    let l = c .before .before .before .before .before .before .before .before .before .loop in
-    let name = c .before .before .before .before .before .before .put .ensures in
-    let port = c .before .before .number .ensures in
-    (omega arith, search needs, omega (arith, l .inv .2, name .place, port .1), written-as (written-on (written-on (l .inv .3) name) (port .0)) (names-next _ (l .port)))
+    let head = c .before .before .before .before .before .before .before .before .before in
+    let l = head .loop in
+    let side = c .before .before .before .before .before .before .put .ensures in
+    let number = c .before .before .number .ensures in
+    (omega arith, search needs, written-as (written-on (l .inv .2) (written-on side number)) (below-next (name (head .before .before .before .args .side .now)) (l .port)))
 
 same-length : tie.Need-same-length Inv-loop μ-loop
 same-length c = search needs
@@ -45,8 +57,9 @@ same-length c = search needs
 returns : tie.Need-returns Inv-loop μ-loop
 returns c =
     let l = c .before .loop in
-    let all : l .port ≡ c .before .before .before .before .args .n = omega (arith, l .inv .0, c .loop-test .left) in
-    (written-as (l .inv .3) (ap (namesOf _) all), omega (arith, l .inv .2, all))
+    let a = c .before .before .before .before .args in
+    let all : l .port ≡ a .n = omega (arith, l .inv .0, c .loop-test .left) in
+    written-as (l .inv .2) (ap (namesOf (a .side .now)) all)
 
 pub names-spec : {M : Type 1} → statement M
 names-spec =

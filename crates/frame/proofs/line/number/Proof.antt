@@ -1,19 +1,12 @@
 use borrow.Author.Needs.{needs}
-use Prim.Native.Nat.{_≤_}
-use mathlib.Core.Path.{_≡_, _∙_}
+use mathlib.Core.Path.{_≡_, ap, _∙_}
 use native.Mathlib.Omega.{arith}
 use lib.ListN.{length, take}
 use Rattle.frame.specs.Text.{decimalOf}
-use Rattle.frame.proofs.DigitLaws.{digits-few, digits-decimal}
+use Rattle.frame.proofs.DigitLaws.{digits-decimal}
 use Rattle.frame.proofs.TextLaws.{written-as}
 use Rattle.frame.proofs.line.number.Statement.{statement}
 use Rattle.frame.proofs.line.number.Tie as tie
-
-few : (c : tie.After-decimal) → length (take (c .decimal .result) (c .decimal .last .1 .0)) ≤ 20
-few c =
-    let n = c .decimal .ensures in
-    let s = c .before .before .before in
-    omega (arith, n .0 .1, digits-few (s .args .value) _ (s .fits .value .fits) (n .1 .0))
 
 spelled : (c : tie.After-decimal) → take (c .decimal .result) (c .decimal .last .1 .0) ≡ decimalOf (c .before .before .before .args .value)
 spelled c =
@@ -31,16 +24,13 @@ slice-aggregate-put : tie.Need-slice-aggregate-put
 slice-aggregate-put c = search needs
 
 put-requires : tie.Need-put-requires
-put-requires c κs = omega (arith, few (c .before .before))
+put-requires c κs = omega (arith, ap length (spelled (c .before .before)))
 
 same-length : tie.Need-same-length
 same-length c = search needs
 
 returns : tie.Need-returns
-returns c =
-    let p = c .before .before in
-    let d = p .before .before .before in
-    (written-as (p .put .ensures) (spelled d), omega (arith, few d, p .put .ensures .place))
+returns c = let p = c .before .before in written-as (p .put .ensures) (spelled (p .before .before .before))
 
 pub number-spec : {M : Type 1} → statement M
 number-spec =

@@ -23,9 +23,7 @@ same-length : tie.Need-same-length
 same-length c = search needs
 
 returns : tie.Need-returns
-returns c =
-    let copy = c .before .before .copy in
-    copied _ _ _ _ _ _ _ (omega arith) (copy .ensures .0) (copy .ensures .1)
+returns c = let copy = c .before .before .copy in copied _ _ _ _ _ (omega arith) (copy .ensures .0) (copy .ensures .1)
 
 pub put-spec : {M : Type 1} → statement M
 put-spec = tie.close (tie.spec sub-copy part-copy-start part-copy-end copy-requires add-result same-length returns)

@@ -1,5 +1,5 @@
--- Why reading 521 bytes is enough: no plan file is longer than 520, so what is read of a longer file is refused as the
--- whole file is.
+-- For a reader that can't hold every file: the first bytes of a file, one more than the longest plan file has, are read as
+-- the whole file is.
 use Prim.Native.Nat.{ℕ, _<_, _≤_}
 use mathlib.Core.Path.{_≡_, refl, ap, sym, _∙_}
 use mathlib.Core.Bool.{Bool, true, false, _&&_, not}
@@ -21,10 +21,10 @@ use Rattle.plan.specs.Range.{portsInRange, frameInRange}
 use Rattle.plan.proofs.BelowLaws.{lt-or-le}
 use Rattle.plan.proofs.LineLaws.{square-small}
 use Rattle.plan.proofs.RangeLaws.{ports-range}
 use Rattle.planfile.specs.declared.Reading.{Reading}
-use Rattle.planfile.specs.Layout.{byteAt, isMarked, versionIn, portsIn, frameIn, fileLength}
+use Rattle.planfile.specs.Layout.{byteAt, isMarked, versionIn, portsIn, frameIn, fileLength, longestFile}
 use Rattle.planfile.specs.Read.{verdictOf, readOf}
 use Rattle.planfile.proofs.ReadLaws.{refuse-ext}
 
 -- the verdict on a file that is too long, by what its head holds: whether mark and version are right, N and T
 abbrev tooLong : Bool → ℕ → ℕ → Verdict
@@ -44,10 +44,10 @@ refuse-kept : (b : Bool) (r : Refusal) (v : Verdict) (p q : Plan) → ifAccepted
 refuse-kept true r v p q h = refl
 refuse-kept false r v p q h = h
 
-no-plan-file : (file : List ℕ) → 520 < length file → portsInRange (portsIn file) ≡ true → eqb (length file) (fileLength (portsIn file)) ≡ false
+no-plan-file : (file : List ℕ) → longestFile < length file → portsInRange (portsIn file) ≡ true → eqb (length file) (fileLength (portsIn file)) ≡ false
 no-plan-file file h e = ne-eqb (length file) _ (λ same. omega (arith, same, square-small (portsIn file) (ports-range (portsIn file) e .1)))
 
-long-verdict : (file : List ℕ) → 520 < length file → verdictOf file ≡ tooLongIn file
+long-verdict : (file : List ℕ) → longestFile < length file → verdictOf file ≡ tooLongIn file
 unfolding verdictOf
 long-verdict file h =
     simp (le-ltb (length file) 8 (omega arith))
@@ -59,7 +59,7 @@ long-verdict file h =
 abbrev refusedBy : Verdict → Reading
 refusedBy v = record { verdict = v; plan = noPlan }
 
-long-read : (file : List ℕ) → 520 < length file → readOf file ≡ refusedBy (tooLongIn file)
+long-read : (file : List ℕ) → longestFile < length file → readOf file ≡ refusedBy (tooLongIn file)
 unfolding readOf
 long-read file h =
     rw (long-verdict file h)
@@ -68,28 +68,29 @@ long-read file h =
     (refuse-kept (not (portsInRange (portsIn file))) PortsOutOfRange _ _ _
     (refuse-kept (not (frameInRange (frameIn file))) FrameOutOfRange _ _ _ refl))))
 
--- the head is within the first 521 bytes
-head-kept : (file : List ℕ) → tooLongIn (take 521 file) ≡ tooLongIn file
-unfolding isMarked
-head-kept file =
-    let at : (p : ℕ) → p < 521 → byteAt (take 521 file) p ≡ byteAt file p = λ p h. getD-take 521 file p 0 h in
-    simp (
-      at 0 (omega arith),
-      at 1 (omega arith),
-      at 2 (omega arith),
-      at 3 (omega arith),
-      at 4 (omega arith),
-      at 5 (omega arith),
-      at 6 (omega arith),
-      at 7 (omega arith),
-    )
+module _ (m : ℕ) (file : List ℕ) (enough : longestFile < m) where
+  -- the head is within the first m bytes
+  head-kept : tooLongIn (take m file) ≡ tooLongIn file
+  unfolding isMarked
+  head-kept =
+      let at : (p : ℕ) → p < 8 → byteAt (take m file) p ≡ byteAt file p = λ p h. getD-take m file p 0 (omega arith) in
+      simp (
+        at 0 (omega arith),
+        at 1 (omega arith),
+        at 2 (omega arith),
+        at 3 (omega arith),
+        at 4 (omega arith),
+        at 5 (omega arith),
+        at 6 (omega arith),
+        at 7 (omega arith),
+      )
 
-pub read-cut : (file : List ℕ) → readOf (take 521 file) ≡ readOf file
-read-cut file =
-    ⊎-elim
-    (λ (h : 521 < length file).
-    long-read (take 521 file) (omega (arith, length-take-le 521 file (omega arith)))
-    ∙ ap refusedBy (head-kept file)
-    ∙ sym (long-read file (omega arith)))
-    (λ (h : length file ≤ 521). ap readOf (take-all 521 file h))
-    (lt-or-le 521 (length file))
+  pub read-cut : readOf (take m file) ≡ readOf file
+  read-cut =
+      ⊎-elim
+      (λ (h : m < length file).
+      long-read (take m file) (omega (arith, length-take-le m file (omega arith)))
+      ∙ ap refusedBy head-kept
+      ∙ sym (long-read file (omega arith)))
+      (λ (h : length file ≤ m). ap readOf (take-all m file h))
+      (lt-or-le m (length file))
