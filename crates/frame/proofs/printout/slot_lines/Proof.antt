@@ -40,7 +40,7 @@ stepped : (c : tie.After-step Inv-loop μ-loop) →
     Decided (r .verdict) (left c)
     (slotLineOf (l .slot) (r .moves) (r .sends) (a .n) ++ slotLinesOf (r .state) (a .store .now) (a .n) (l .slot + 1) (a .frame - (l .slot + 1)))
     (refusalLineOf (r .verdict))
-stepped c = by-step _ _ _ _ _ _ (c .before .loop-test .taken) (c .step .ensures)
+stepped c = by-step _ _ _ _ _ _ (c .before .loop-test .taken) (c .step .ensures .0)
 
 loop-holds : tie.Need-loop-holds Inv-loop μ-loop
 loop-holds c = (begun-start _ _ (lines-start _ _ _ _), refl, omega arith)
