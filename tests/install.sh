@@ -17,8 +17,8 @@ by_pkg_config() {
     [ "$(pkg-config --modversion gambyre)" = "$version" ] || fail "$1: not the header's version"
     words=$(pkg-config --cflags --libs gambyre)
     # pkg-config escapes its words for a shell.
-    eval "gcc -std=c99 examples/label_press.c $words -o target/installed"
-    target/installed >"$printed"
+    eval "gcc -std=c99 examples/label_press.c $words -o target/installed" || fail "$1: the example can't be built"
+    target/installed >"$printed" || { cat "$printed"; fail "$1: the example failed"; }
     diff examples/label_press.txt "$printed" || fail "$1: the example prints something else"
 }
 

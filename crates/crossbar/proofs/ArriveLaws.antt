@@ -1,6 +1,6 @@
 -- When an arrival is accepted, what it answers and leaves in the store, and that its places are there.
 use Prim.Native.Nat.{ℕ, _+_, _*_, _%_, _<_, _≤_}
-use mathlib.Core.Path.{_≡_}
+use mathlib.Core.Path.{_≡_, refl}
 use mathlib.Core.Bool.{not, _&&_}
 use mathlib.Core.List.{List}
 use native.Mathlib.Nat.{mod-lt, mul-le-mul}
@@ -9,6 +9,7 @@ use lib.Dec.{ltb, leb}
 use lib.ListN.{length, set}
 use borrow.Author.Tests.{not-false, ltb-true, lt-ltb, leb-false, lt-leb}
 use Rattle.refusal.specs.declared.Refusal.{Refusal}
+use Rattle.refusal.specs.declared.Verdict.{Verdict}
 use Rattle.refusal.specs.declared.Verdict.the-variants.{Accepted, Refused}
 use Rattle.refusal.proofs.ChainLaws.{refuse-passed}
 use Rattle.plan.specs.Range.{mostFlows}
@@ -18,7 +19,7 @@ use Rattle.plan.proofs.LineLaws.{row-within, flow-below, square-small}
 use Rattle.crossbar.specs.State.{queueAt, storeFits}
 use Rattle.fabric.specs.Flow.{mostDepth, cellPlace}
 use Rattle.crossbar.specs.Valid.{validOf}
-use Rattle.crossbar.specs.Arrive.{withQueues, longer, arriveVerdict, CanArrive, arriveOf}
+use Rattle.crossbar.specs.Arrive.{withQueues, longer, arriveVerdict, CanArrive, arriveOf, Arrives}
 use Rattle.crossbar.specs.declared.state.Switch.{Switch}
 use Rattle.crossbar.proofs.StoreLaws.{store-length, store-fits}
 use Rattle.crossbar.proofs.ValidLaws.{valid}
@@ -51,22 +52,19 @@ arrives s len i j can =
       lt-leb _ _ (can .room),
     )
 
-pub arrive-accepted : (s : Switch) (store : List ℕ) (i j cell : ℕ) → arriveVerdict s (length store) i j ≡ Accepted
-    → let k = flowOf (s .running .ports) i j in
-    let q = queueAt s k in
-    arriveOf s store i j cell
-    ≡ record {
-      reply = record { verdict = Accepted; state = withQueues s (set (s .queues) k (longer q)) };
-      store = set store (cellPlace (s .depth) k q (q .count)) cell;
-    }
-unfolding arriveOf
-arrive-accepted s store i j cell e = simp e
+-- The answer and the store, as the code leaves them, by its verdict v.
+module _ (s : Switch) (store : List ℕ) (i j cell : ℕ) {v : Verdict} (is : v ≡ arriveVerdict s (length store) i j) where
+  pub arrive-accepted : v ≡ Accepted →
+      let k = flowOf (s .running .ports) i j in
+      let q = queueAt s k in
+      Arrives s store i j cell (record { verdict = v; state = withQueues s (set (s .queues) k (longer q)) }) (set store (cellPlace (s .depth) k q (q .count)) cell)
+  unfolding arriveOf
+  arrive-accepted told = rw (← is, told) refl
 
--- a refused arrival leaves state and store as they were
-pub arrive-refused : (s : Switch) (store : List ℕ) (i j cell : ℕ) (r : Refusal) → arriveVerdict s (length store) i j ≡ Refused r
-    → arriveOf s store i j cell ≡ record { reply = record { verdict = Refused r; state = s }; store = store }
-unfolding arriveOf
-arrive-refused s store i j cell r e = simp e
+  -- a refused arrival leaves state and store as they were
+  pub arrive-refused : {r : Refusal} → v ≡ Refused r → Arrives s store i j cell (record { verdict = v; state = s }) store
+  unfolding arriveOf
+  arrive-refused told = rw (← is, told) refl
 
 -- the flow has a number in the lists, and its next cell a place in the store
 pub record Placed (s : Switch) (len i j : ℕ) : Type 0 where

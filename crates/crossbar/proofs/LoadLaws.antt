@@ -1,20 +1,23 @@
 -- When a load is accepted, and what it answers.
-use Prim.Native.Nat.{ℕ}
-use mathlib.Core.Path.{_≡_}
+use Prim.Native.Nat.{ℕ, _*_}
+use mathlib.Core.Path.{_≡_, refl}
 use mathlib.Core.Bool.{not, _&&_}
 use mathlib.Core.List.{List}
 use lib.Dec.{eqb}
 use borrow.Author.Tests.{not-false, eqb-true, eq-eqb}
 use Rattle.refusal.specs.declared.Refusal.{Refusal}
+use Rattle.refusal.specs.declared.Verdict.{Verdict}
 use Rattle.refusal.specs.declared.Verdict.the-variants.{Accepted, Refused}
 use Rattle.refusal.proofs.ChainLaws.{refuse-passed, then-passed}
 use Rattle.plan.specs.Accept.{acceptOf}
 use Rattle.plan.proofs.BelowLaws.{and-true}
 use Rattle.plan.proofs.AcceptLaws.{accepted, accepts}
 use Rattle.crossbar.specs.State.{hasWaiting}
+use Rattle.crossbar.specs.Rates.{overlaid}
 use Rattle.crossbar.specs.Valid.{validOf}
-use Rattle.crossbar.specs.Load.{loadVerdict, CanLoad, withWaiting, loadOf}
+use Rattle.crossbar.specs.Load.{withPlans, loadVerdict, CanLoad, loadOf}
 use Rattle.crossbar.specs.declared.state.Switch.{Switch}
+use Rattle.crossbar.specs.declared.state.Reply.{Reply}
 
 pub can-load : (s : Switch) (n t : ℕ) (rates : List ℕ) → loadVerdict s n t rates ≡ Accepted → CanLoad s n t rates
 unfolding loadVerdict
@@ -43,11 +46,14 @@ loads s n t rates can =
       can .free,
     )
 
-pub load-accepted : (s : Switch) (n t : ℕ) (rates : List ℕ) → loadVerdict s n t rates ≡ Accepted → loadOf s n t rates ≡ record { verdict = Accepted; state = withWaiting s n t rates }
-unfolding loadOf
-load-accepted s n t rates e = simp e
+-- The answer, as the code puts it together from its verdict v.
+module _ (s : Switch) (n t : ℕ) (rates : List ℕ) {v : Verdict} (is : v ≡ loadVerdict s n t rates) where
+  pub load-accepted : {laid : List ℕ} → v ≡ Accepted → laid ≡ overlaid (s .waiting .rates) rates (n * n)
+      → _≡_ {A = Reply} (record { verdict = v; state = withPlans s (s .running) (record { ports = n; frame = t; rates = laid }) 1 }) (loadOf s n t rates)
+  unfolding loadOf
+  load-accepted told laid = rw (laid, ← is, told) refl
 
--- a refused load leaves the state as it was
-pub load-refused : (s : Switch) (n t : ℕ) (rates : List ℕ) (r : Refusal) → loadVerdict s n t rates ≡ Refused r → loadOf s n t rates ≡ record { verdict = Refused r; state = s }
-unfolding loadOf
-load-refused s n t rates r e = simp e
+  -- a refused load leaves the state as it was
+  pub load-refused : {r : Refusal} → v ≡ Refused r → _≡_ {A = Reply} (record { verdict = v; state = s }) (loadOf s n t rates)
+  unfolding loadOf
+  load-refused told = rw (← is, told) refl

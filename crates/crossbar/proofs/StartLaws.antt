@@ -1,19 +1,24 @@
 -- When a start is accepted, and what it answers.
-use Prim.Native.Nat.{ℕ}
+use Prim.Native.Nat.{ℕ, _*_}
 use mathlib.Core.Path.{_≡_, refl}
 use mathlib.Core.Bool.{not}
 use mathlib.Core.List.{List}
 use lib.ListN.{length, replicate}
 use borrow.Author.Tests.{not-false}
 use Rattle.refusal.specs.declared.Refusal.{Refusal}
+use Rattle.refusal.specs.declared.Verdict.{Verdict}
 use Rattle.refusal.specs.declared.Verdict.the-variants.{Accepted, Refused}
 use Rattle.refusal.proofs.ChainLaws.{refuse-passed, then-passed}
 use Rattle.plan.specs.Range.{mostFlows}
 use Rattle.plan.specs.Accept.{acceptOf, IsPlan}
+use Rattle.plan.specs.declared.Plan.{Plan}
 use Rattle.plan.proofs.AcceptLaws.{accepted, accepts}
 use Rattle.crossbar.specs.State.{planRates, depthInRange, storeFits}
 use Rattle.plan.specs.NoPlan.{noPlan}
 use Rattle.crossbar.specs.Start.{freshWith, planOf, startVerdict, CanStart, startOf}
+use Rattle.crossbar.specs.Rates.{overlaid}
+use Rattle.crossbar.specs.declared.state.Switch.{Switch}
+use Rattle.crossbar.specs.declared.state.Reply.{Reply}
 use Rattle.crossbar.proofs.RateLaws.{laid-rates}
 use Rattle.crossbar.proofs.StoreLaws.{store-length, store-fits}
 use Rattle.crossbar.proofs.ValidLaws.{depth-range, depth-in}
@@ -41,16 +46,18 @@ starts n t rates depth len can =
       store-fits n depth len (can .store),
     )
 
-pub start-accepted : (n t : ℕ) (rates : List ℕ) (depth : ℕ) (store : List ℕ) → startVerdict n t rates depth (length store) ≡ Accepted
-    → startOf n t rates depth store ≡ record { verdict = Accepted; state = freshWith (planOf n t rates) depth }
-unfolding startOf
-start-accepted n t rates depth store e = simp e
+-- The answer, as the code puts it together from its verdict v and a fresh state.
+module _ (n t : ℕ) (rates : List ℕ) (depth : ℕ) (store : List ℕ) {v : Verdict} {fresh : Switch} (is : v ≡ startVerdict n t rates depth (length store)) where
+  pub start-accepted : {laid : List ℕ} → v ≡ Accepted → laid ≡ overlaid (replicate mostFlows 0) rates (n * n)
+      → fresh ≡ freshWith (record { ports = n; frame = t; rates = laid }) depth → _≡_ {A = Reply} (record { verdict = v; state = fresh }) (startOf n t rates depth store)
+  unfolding startOf
+  start-accepted told laid made = rw (made, laid, ← is, told) refl
 
--- the state of a refused start is all 0
-pub start-refused : (n t : ℕ) (rates : List ℕ) (depth : ℕ) (store : List ℕ) (r : Refusal) → startVerdict n t rates depth (length store) ≡ Refused r
-    → startOf n t rates depth store ≡ record { verdict = Refused r; state = freshWith noPlan 0 }
-unfolding startOf
-start-refused n t rates depth store r e = simp e
+  -- the state of a refused start is all 0
+  pub start-refused : {r : Refusal} {none : Plan} → v ≡ Refused r → none ≡ noPlan → fresh ≡ freshWith none 0
+      → _≡_ {A = Reply} (record { verdict = v; state = fresh }) (startOf n t rates depth store)
+  unfolding startOf
+  start-refused told none made = rw (made, none, ← is, told) refl
 
 -- the rates of a started plan are the given list
 pub started-rates : (n t : ℕ) (rates : List ℕ) → IsPlan n t rates → planRates (planOf n t rates) ≡ rates

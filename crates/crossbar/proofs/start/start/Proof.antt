@@ -34,10 +34,7 @@ fresh-with-requires : tie.Need-fresh-with-requires
 fresh-with-requires c κs = search needs
 
 returns : tie.Need-returns
-returns c =
-    let told = c .before .before .enum-told2 .given .1 in
-    let v = sym (c .before .before .before .before .start-verdict .ensures) ∙ told in
-    cc (start-refused _ _ _ _ _ _ v)
+returns c = start-refused _ _ _ _ _ (c .before .before .before .before .start-verdict .ensures) (c .before .before .enum-told2 .given .1) (c .before .no-plan .ensures) (c .fresh-with .ensures)
 
 mul-overlay : tie.Need-mul-overlay
 mul-overlay c = omega (arith, room c)
@@ -49,7 +46,7 @@ fresh-with-requires-2 : tie.Need-fresh-with-requires-2
 fresh-with-requires-2 c κs = search needs
 
 returns-2 : tie.Need-returns-2
-returns-2 c = cc (start-accepted _ _ _ _ _ (pass (c .before .before)))
+returns-2 c = start-accepted _ _ _ _ _ (c .before .before .before .before .start-verdict .ensures) (c .before .before .enum-told .given .1) (c .before .overlay .ensures) (c .fresh-with2 .ensures)
 
 pub start-spec : {M : Type 1} → statement M
 start-spec =

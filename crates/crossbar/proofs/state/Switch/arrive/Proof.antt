@@ -25,10 +25,7 @@ enum-told-2 : tie.Need-enum-told-2
 enum-told-2 c = search needs
 
 returns : tie.Need-returns
-returns c =
-    let told = c .enum-told2 .given .1 in
-    let v = sym (c .before .before .arrive-verdict .ensures) ∙ told in
-    cc (arrive-refused _ _ _ _ _ _ v)
+returns c = arrive-refused _ _ _ _ _ (c .before .before .arrive-verdict .ensures) (c .enum-told2 .given .1)
 
 mul-k : tie.Need-mul-k
 mul-k c = omega (arith, known c .few)
@@ -79,7 +76,7 @@ same-length : tie.Need-same-length
 same-length c = search needs
 
 returns-2 : tie.Need-returns-2
-returns-2 c = cc (arrive-accepted _ _ _ _ _ (pass (c .before .before .before .before)))
+returns-2 c = arrive-accepted _ _ _ _ _ (c .before .before .before .before .before .before .arrive-verdict .ensures) (c .before .before .before .before .enum-told .given .1)
 
 pub arrive-spec : {M : Type 1} → statement M
 arrive-spec =

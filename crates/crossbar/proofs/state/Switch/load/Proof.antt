@@ -28,10 +28,7 @@ enum-told-2 : tie.Need-enum-told-2
 enum-told-2 c = search needs
 
 returns : tie.Need-returns
-returns c =
-    let told = c .enum-told2 .given .1 in
-    let v = sym (c .before .before .load-verdict .ensures) ∙ told in
-    cc (load-refused _ _ _ _ _ v)
+returns c = load-refused _ _ _ _ (c .before .before .load-verdict .ensures) (c .enum-told2 .given .1)
 
 mul-overlay : tie.Need-mul-overlay
 mul-overlay c = omega (arith, room (c .before))
@@ -40,7 +37,7 @@ overlay-requires : tie.Need-overlay-requires
 overlay-requires c κs = room (c .before)
 
 returns-2 : tie.Need-returns-2
-returns-2 c = cc (load-accepted _ _ _ _ (pass (c .before .before)))
+returns-2 c = load-accepted _ _ _ _ (c .before .before .before .before .load-verdict .ensures) (c .before .before .enum-told .given .1) (c .overlay .ensures)
 
 pub load-spec : {M : Type 1} → statement M
 load-spec =
