@@ -10,13 +10,17 @@ use Rattle.regulator.specs.Boost.{columnOn, boostPlace, boostDiagonal, boostDia
 use Rattle.multiplexer.specs.Choose.{eligible, roundedUp, better, bestOf, chooseOf}
 use Rattle.multiplexer.specs.Count.{countsAfter, clearedBelow}
 use Rattle.multiplexer.specs.Frame.{countsAt}
-use Rattle.fabric.specs.Choices.{choicesOf}
+use Rattle.side.specs.Choices.{choicesOf}
 use Rattle.fabric.specs.Moves.{moveOf, boardMoves, movesOf, roomFor, roomForAll}
 use Rattle.fabric.specs.Sends.{sendOf, headSends, sendsOf}
-use Rattle.fabric.specs.Counts.{countsOf}
+use Rattle.side.specs.Counts.{countsOf}
 use Rattle.crossbar.specs.State.{depthInRange, storeFits}
-use Rattle.crossbar.specs.Valid.{planValid, plansValid, flowsValid, portValid, portsValid, validOf}
-use Rattle.crossbar.specs.Rates.{overlaid}
+use Rattle.planpair.specs.Valid.{planValid, plansValid}
+use Rattle.side.specs.Valid.{portsValid}
+use Rattle.fabric.specs.Valid.{flowsValid}
+use Rattle.multiplexer.specs.Valid.{portValid}
+use Rattle.crossbar.specs.Valid.{validOf}
+use Rattle.planpair.specs.Rates.{overlaid}
 use Rattle.crossbar.specs.Start.{freshWith, startVerdict, startOf}
 use Rattle.crossbar.specs.Arrive.{arriveVerdict, arriveOf}
 use Rattle.crossbar.specs.Takeover.{takeoverOf}

@@ -6,20 +6,21 @@ use Rattle.refusal.specs.Chain.{ifAccepted}
 use Rattle.refusal.specs.declared.Verdict.{Verdict}
 use Rattle.refusal.specs.declared.Verdict.the-variants.{Accepted, Refused}
 use Rattle.fabric.specs.Answer.{answerOf, allIdle}
-use Rattle.fabric.specs.Choices.{choiceAt}
+use Rattle.side.specs.Choices.{choiceAt, ChoosesPort}
 use Rattle.fabric.specs.declared.flow.Port.{Port}
-use Rattle.fabric.proofs.NameLaws.{ChoosesPort, NamesPort, choices-name, idle-names, moves-name, sends-name}
+use Rattle.side.proofs.NameLaws.{choices-name}
+use Rattle.fabric.proofs.NameLaws.{NamesPort, idle-names, moves-name, sends-name}
 use Rattle.crossbar.specs.Takeover.{takeoverOf}
 use Rattle.crossbar.specs.Step.{boardChoices, headChoices, slotMoves, slotSends, stepVerdict, stepOf}
 use Rattle.crossbar.specs.declared.state.Switch.{Switch}
 
 boards-choose : (s : Switch) (p : ℕ) → ChoosesPort (choiceAt (boardChoices s) p)
 unfolding boardChoices
-boards-choose s p = choices-name _ (s .boards) (s .running .frame) (s .slot) (s .running .ports) p
+boards-choose s p = choices-name _ (s .fabric .boards) (s .running .frame) (s .slot) (s .running .ports) p
 
 heads-choose : (s : Switch) (p : ℕ) → ChoosesPort (choiceAt (headChoices s) p)
 unfolding headChoices
-heads-choose s p = choices-name _ (s .heads) (s .running .frame) (s .slot) (s .running .ports) p
+heads-choose s p = choices-name _ (s .fabric .heads) (s .running .frame) (s .slot) (s .running .ports) p
 
 -- the ports of an accepted step, and of a refused one, where all idle
 replied : (v : Verdict) (ports : List Port) (p : ℕ) → NamesPort (answerOf ports p) → NamesPort (answerOf (ifAccepted v ports allIdle) p)
@@ -32,7 +33,7 @@ module _ (s : Switch) (store : List ℕ) (p : ℕ) where
   step-moves-name =
       let u = takeoverOf s in
       replied (stepVerdict s (length store)) (slotMoves u store .ports) p
-      (moves-name (boardChoices u) (boards-choose u) (u .running .ports) (u .depth) store (u .queues) (u .crosspoints) (u .running .ports) p)
+      (moves-name (boardChoices u) (boards-choose u) (u .running .ports) (u .depth) store (u .fabric .queues) (u .fabric .crosspoints) (u .running .ports) p)
 
   pub step-sends-name : NamesPort (answerOf (stepOf s store .sends) p)
   unfolding stepOf

@@ -3,7 +3,7 @@ use Prim.Native.Nat.{ℕ, _+_, _*_, _%_, _<_, _≤_}
 use mathlib.Core.Path.{_≡_, refl}
 use mathlib.Core.Bool.{not, _&&_}
 use mathlib.Core.List.{List}
-use native.Mathlib.Nat.{mod-lt, mul-le-mul}
+use native.Mathlib.Nat.{mul-le-mul}
 use native.Mathlib.Omega.{arith}
 use lib.Dec.{ltb, leb}
 use lib.ListN.{length, set}
@@ -17,7 +17,7 @@ use Rattle.plan.specs.Lines.{flowOf}
 use Rattle.plan.proofs.BelowLaws.{and-true}
 use Rattle.plan.proofs.LineLaws.{row-within, flow-below, square-small}
 use Rattle.crossbar.specs.State.{queueAt, storeFits}
-use Rattle.fabric.specs.Flow.{mostDepth, cellPlace}
+use Rattle.fabric.specs.Flow.{mostDepth}
 use Rattle.crossbar.specs.Valid.{validOf}
 use Rattle.crossbar.specs.Arrive.{withQueues, longer, arriveVerdict, CanArrive, arriveOf, Arrives}
 use Rattle.crossbar.specs.declared.state.Switch.{Switch}
@@ -54,12 +54,14 @@ arrives s len i j can =
 
 -- The answer and the store, as the code leaves them, by its verdict v.
 module _ (s : Switch) (store : List ℕ) (i j cell : ℕ) {v : Verdict} (is : v ≡ arriveVerdict s (length store) i j) where
-  pub arrive-accepted : v ≡ Accepted →
+  -- `next` is the place of the ring that the cell goes to
+  pub arrive-accepted : {next : ℕ} → v ≡ Accepted →
       let k = flowOf (s .running .ports) i j in
       let q = queueAt s k in
-      Arrives s store i j cell (record { verdict = v; state = withQueues s (set (s .queues) k (longer q)) }) (set store (cellPlace (s .depth) k q (q .count)) cell)
+      next ≡ (q .place + q .count) % s .depth →
+      Arrives s store i j cell (record { verdict = v; state = withQueues s (set (s .fabric .queues) k (longer q)) }) (set store (k * s .depth + next) cell)
   unfolding arriveOf
-  arrive-accepted told = rw (← is, told) refl
+  arrive-accepted told place = rw (← is, told, place) refl
 
   -- a refused arrival leaves state and store as they were
   pub arrive-refused : {r : Refusal} → v ≡ Refused r → Arrives s store i j cell (record { verdict = v; state = s }) store
@@ -68,10 +70,11 @@ module _ (s : Switch) (store : List ℕ) (i j cell : ℕ) {v : Verdict} (is : v 
 
 -- the flow has a number in the lists, and its next cell a place in the store
 pub record Placed (s : Switch) (len i j : ℕ) : Type 0 where
-  pub some : 1 ≤ s .depth
   pub deep : s .depth ≤ mostDepth
   pub few : flowOf (s .running .ports) i j < mostFlows
-  pub within : (p : ℕ) → flowOf (s .running .ports) i j * s .depth + p % s .depth < len
+  pub room : queueAt s (flowOf (s .running .ports) i j) .count < s .depth
+  pub once-around : let q = queueAt s (flowOf (s .running .ports) i j) in q .place + q .count < s .depth + s .depth
+  pub within : (p : ℕ) → p < s .depth → flowOf (s .running .ports) i j * s .depth + p < len
   pub small : len ≤ mostFlows * mostDepth
 
 pub placed : (s : Switch) (len i j : ℕ) → CanArrive s len i j → Placed s len i j
@@ -81,9 +84,10 @@ placed s len i j can =
     let square : n * n ≤ mostFlows = square-small n (v .running .few-ports) in
     let flow : flowOf n i j < n * n = flow-below n i j (can .board) (can .head) in
     record {
-      some = v .some-place;
       deep = v .few-places;
       few = omega arith;
-      within = λ p. omega (arith, can .store, row-within (flowOf n i j) (n * n) (s .depth) flow, mod-lt p (v .some-place));
+      room = can .room;
+      once-around = omega (arith, v .queue-place (flowOf n i j) flow, can .room);
+      within = λ p l. omega (arith, can .store, row-within (flowOf n i j) (n * n) (s .depth) flow);
       small = omega (arith, can .store, mul-le-mul square (v .few-places));
     }

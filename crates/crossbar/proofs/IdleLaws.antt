@@ -1,45 +1,43 @@
 -- In a slot that isn't refused, a port idles only if no flow of it is eligible.
 use Prim.Native.Nat.{ℕ, _*_, _<_, _≤_}
 use mathlib.Core.Path.{_≡_, refl, ap, sym, subst, _∙_}
-use mathlib.Core.Bool.{Bool, true, false, not}
+use mathlib.Core.Bool.{not}
 use mathlib.Core.List.{List}
 use native.Mathlib.Omega.{arith}
-use lib.Dec.{eqb}
 use lib.ListN.{length}
 use borrow.Author.Tests.{not-false}
 use Rattle.refusal.specs.declared.Verdict.the-variants.{Accepted}
 use Rattle.refusal.proofs.ChainLaws.{refuse-passed}
 use Rattle.plan.specs.Range.{mostPorts, mostFlows}
 use Rattle.plan.specs.Desk.{rowOf}
-use Rattle.plan.proofs.BelowLaws.{and-true}
 use Rattle.multiplexer.specs.Window.{columnOf}
 use Rattle.multiplexer.specs.declared.Choice.{Choice}
 use Rattle.multiplexer.specs.declared.Choice.the-variants as choice
 use Rattle.multiplexer.proofs.ChoiceLaws.{idle-none}
 use Rattle.multiplexer.proofs.PortLaws.{row-length, column-length}
 use Rattle.fabric.specs.Answer.{answerOf}
-use Rattle.fabric.specs.Choices.{choiceAt, CanChoose}
+use Rattle.side.specs.Choices.{choiceAt, CanChoose}
 use Rattle.fabric.specs.declared.flow.Answer.the-variants.{Idle}
-use Rattle.fabric.proofs.ChoiceLaws.{choices-at, choices-named}
+use Rattle.side.proofs.ChoiceLaws.{choices-at, choices-named}
 use Rattle.fabric.proofs.MoveLaws.{move-serves, moves-served, moves-length}
 use Rattle.fabric.proofs.SendLaws.{send-serves, sends-served}
-use Rattle.crossbar.specs.State.{hasWaiting, planRates}
+use Rattle.planpair.specs.Rates.{planRates}
 use Rattle.crossbar.specs.Valid.{validOf, IsValid}
-use Rattle.crossbar.specs.Load.{withPlans}
-use Rattle.crossbar.specs.Takeover.{takesOver, replaced, cleared, takeoverOf}
+use Rattle.crossbar.specs.Takeover.{takeoverOf}
 use Rattle.crossbar.specs.Step.{boardChoices, headChoices, slotMoves, slotSends, slotReply, stepVerdict, stepOf, IdlesOnly}
 use Rattle.crossbar.specs.declared.state.Switch.{Switch}
 use Rattle.crossbar.specs.declared.state.SlotReply.{SlotReply}
 use Rattle.crossbar.proofs.ValidLaws.{valid}
 use Rattle.crossbar.proofs.OwnedLaws.{Sized}
-use Rattle.crossbar.proofs.TakeoverLaws.{taken, not-taken, taken-rates}
+use Rattle.crossbar.proofs.TakeoverLaws.{Ruled, ruled}
+use Rattle.crossbar.proofs.StepLaws.{ruling-part}
 
 module _
     (u : Switch) (store : List ℕ)
     (few : u .running .ports ≤ mostPorts)
     (square : length (planRates (u .running)) ≡ u .running .ports * u .running .ports)
-    (queues-full : length (u .queues) ≡ mostFlows)
-    (points-full : length (u .crosspoints) ≡ mostFlows)
+    (queues-full : length (u .fabric .queues) ≡ mostFlows)
+    (points-full : length (u .fabric .crosspoints) ≡ mostFlows)
   where
     abbrev n : ℕ
     n = u .running .ports
@@ -49,11 +47,11 @@ module _
 
     boards-can : CanChoose n (boardChoices u)
     unfolding boardChoices
-    boards-can = choices-named (rowOf (planRates (u .running)) n) (u .boards) (u .running .frame) (u .slot) n few rows-long
+    boards-can = choices-named (rowOf (planRates (u .running)) n) (u .fabric .boards) (u .running .frame) (u .slot) n few rows-long
 
     heads-can : CanChoose n (headChoices u)
     unfolding headChoices
-    heads-can = choices-named (columnOf (planRates (u .running)) n) (u .heads) (u .running .frame) (u .slot) n few (λ j _. column-length (planRates (u .running)) n j)
+    heads-can = choices-named (columnOf (planRates (u .running)) n) (u .fabric .heads) (u .running .frame) (u .slot) n few (λ j _. column-length (planRates (u .running)) n j)
 
     board-idle : (i : ℕ) → i < n → answerOf (slotMoves u store .ports) i ≡ Idle → choiceAt (boardChoices u) i ≡ choice.Idle
     board-idle i l h = go (choiceAt (boardChoices u) i) refl
@@ -61,10 +59,10 @@ module _
         go : (c : Choice) → choiceAt (boardChoices u) i ≡ c → choiceAt (boardChoices u) i ≡ choice.Idle
         go choice.Idle e = e
         go (choice.Flow j) e =
-            absurd (move-serves _ _ _ _ _ (sym (moves-served n (u .depth) store (boardChoices u) (u .queues) (u .crosspoints) boards-can queues-full points-full i j l e .answer) ∙ h))
+            absurd (move-serves _ _ _ _ _ (sym (moves-served n (u .depth) store (boardChoices u) (u .fabric .queues) (u .fabric .crosspoints) boards-can queues-full points-full i j l e .answer) ∙ h))
 
     filled-full : length (slotMoves u store .crosspoints) ≡ mostFlows
-    filled-full = moves-length n (u .depth) store (boardChoices u) (u .queues) (u .crosspoints) n .points-kept ∙ points-full
+    filled-full = moves-length n (u .depth) store (boardChoices u) (u .fabric .queues) (u .fabric .crosspoints) n .points-kept ∙ points-full
 
     head-idle : (j : ℕ) → j < n → answerOf (slotSends u store .ports) j ≡ Idle → choiceAt (headChoices u) j ≡ choice.Idle
     head-idle j l h = go (choiceAt (headChoices u) j) refl
@@ -79,10 +77,10 @@ module _
     slot-idles =
         record {
           boards = λ i f hi hf h.
-              idle-none _ _ _ _ (sym (choices-at (rowOf (planRates (u .running)) n) (u .boards) (u .running .frame) (u .slot) n i hi few) ∙ board-idle i hi h) f
+              idle-none _ _ _ _ (sym (choices-at (rowOf (planRates (u .running)) n) (u .fabric .boards) (u .running .frame) (u .slot) n i hi few) ∙ board-idle i hi h) f
               (omega (arith, rows-long i hi, few));
           heads = λ j f hj hf h.
-              idle-none _ _ _ _ (sym (choices-at (columnOf (planRates (u .running)) n) (u .heads) (u .running .frame) (u .slot) n j hj few) ∙ head-idle j hj h) f
+              idle-none _ _ _ _ (sym (choices-at (columnOf (planRates (u .running)) n) (u .fabric .heads) (u .running .frame) (u .slot) n j hj few) ∙ head-idle j hj h) f
               (omega (arith, column-length (planRates (u .running)) n j, few));
         }
 
@@ -90,7 +88,11 @@ module _
 pub idles-only : (s : Switch) (store : List ℕ) (r : SlotReply) → Sized s → r ≡ stepOf s store → r .verdict ≡ Accepted → IdlesOnly (takeoverOf s) r
 unfolding stepOf stepVerdict
 idles-only s store r size is accepted =
-    subst (IdlesOnly (takeoverOf s)) (sym done) (go (takesOver s) refl)
+    subst (IdlesOnly (takeoverOf s)) (sym done)
+    (slot-idles (takeoverOf s) store
+    (rw (after .ports) (rules .running .few-ports))
+    (ap length (after .rates) ∙ ruling-part s size (s .running .ports) (rules .running .few-ports) ∙ (rw (after .ports) refl))
+    (rw (after .fabric) (size .queues)) (rw (after .fabric) (size .points)))
   where
     verdict : stepVerdict s (length store) ≡ Accepted
     verdict = sym (ap (λ (a : SlotReply). a .verdict) is) ∙ accepted
@@ -98,14 +100,8 @@ idles-only s store r size is accepted =
     rules : IsValid s
     rules = valid s (not-false _ (refuse-passed (not (validOf s)) _ _ verdict .0))
 
+    after : Ruled s (takeoverOf s)
+    after = ruled s size rules
+
     done : r ≡ slotReply (takeoverOf s) store
     done = is ∙ rw verdict refl
-
-    go : (b : Bool) → takesOver s ≡ b → IdlesOnly (takeoverOf s) (slotReply (takeoverOf s) store)
-    go true t =
-        let w = and-true (eqb (s .slot) 0) (hasWaiting s) t .1 in
-        let p = rules .waiting w in
-        rw (taken s t)
-        (slot-idles (withPlans s (replaced (s .running) (s .waiting)) (cleared (s .waiting)) 0) store (p .few-ports)
-        (ap length (taken-rates (s .running) (s .waiting) (p .few-ports) (size .running) (size .waiting)) ∙ p .square) (size .queues) (size .points))
-    go false t = rw (not-taken s t) (slot-idles s store (rules .running .few-ports) (rules .running .square) (size .queues) (size .points))

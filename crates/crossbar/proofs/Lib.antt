@@ -1,7 +1,5 @@
-pub mod LoopLaws
 pub mod OwnedLaws
 pub mod ValidLaws
-pub mod RateLaws
 pub mod StoreLaws
 pub mod StartLaws
 pub mod ArriveLaws

@@ -13,7 +13,7 @@ use Rattle.plan.specs.Accept.{acceptOf}
 use Rattle.plan.proofs.BelowLaws.{and-true}
 use Rattle.plan.proofs.AcceptLaws.{accepted, accepts}
 use Rattle.crossbar.specs.State.{hasWaiting}
-use Rattle.crossbar.specs.Rates.{overlaid}
+use Rattle.planpair.specs.Rates.{overlaid}
 use Rattle.crossbar.specs.Valid.{validOf}
 use Rattle.crossbar.specs.Load.{withPlans, loadVerdict, CanLoad, loadOf}
 use Rattle.crossbar.specs.declared.state.Switch.{Switch}

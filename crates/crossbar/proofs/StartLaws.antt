@@ -13,13 +13,13 @@ use Rattle.plan.specs.Range.{mostFlows}
 use Rattle.plan.specs.Accept.{acceptOf, IsPlan}
 use Rattle.plan.specs.declared.Plan.{Plan}
 use Rattle.plan.proofs.AcceptLaws.{accepted, accepts}
-use Rattle.crossbar.specs.State.{planRates, depthInRange, storeFits}
+use Rattle.crossbar.specs.State.{depthInRange, storeFits}
 use Rattle.plan.specs.NoPlan.{noPlan}
 use Rattle.crossbar.specs.Start.{freshWith, planOf, startVerdict, CanStart, startOf}
-use Rattle.crossbar.specs.Rates.{overlaid}
+use Rattle.planpair.specs.Rates.{overlaid, planRates}
 use Rattle.crossbar.specs.declared.state.Switch.{Switch}
 use Rattle.crossbar.specs.declared.state.Reply.{Reply}
-use Rattle.crossbar.proofs.RateLaws.{laid-rates}
+use Rattle.planpair.proofs.RateLaws.{laid-rates}
 use Rattle.crossbar.proofs.StoreLaws.{store-length, store-fits}
 use Rattle.crossbar.proofs.ValidLaws.{depth-range, depth-in}
 

@@ -1,18 +1,19 @@
--- What a takeover does, and what it leaves.
-use Prim.Native.Nat.{_*_, _≤_}
-use mathlib.Core.Path.{_≡_, sym, ap, _∙_}
-use mathlib.Core.Bool.{true, false}
-use native.Mathlib.Omega.{arith}
-use lib.ListN.{length, take}
-use lib.Seq.{length-take-le}
-use Rattle.plan.specs.Range.{mostPorts, mostFlows}
-use Rattle.plan.specs.declared.Plan.{Plan}
-use Rattle.plan.proofs.LineLaws.{square-small}
-use Rattle.crossbar.specs.State.{planRates}
+-- What a takeover does to a state, and what it leaves.
+use Prim.Native.Nat.{ℕ, _*_}
+use mathlib.Core.Path.{_≡_, refl, sym, ap, _∙_}
+use mathlib.Core.Bool.{Bool, true, false, cond}
+use lib.Dec.{eqb}
+use lib.ListN.{take}
+use Rattle.plan.proofs.BelowLaws.{and-true}
+use Rattle.planpair.specs.Rates.{planRates}
+use Rattle.planpair.specs.Takeover.{replaced, cleared}
+use Rattle.planpair.proofs.TakeoverLaws.{taken-rates}
+use Rattle.crossbar.specs.State.{hasWaiting}
+use Rattle.crossbar.specs.Valid.{IsValid}
 use Rattle.crossbar.specs.Load.{withPlans}
-use Rattle.crossbar.specs.Takeover.{takesOver, replaced, cleared, takeoverOf}
+use Rattle.crossbar.specs.Takeover.{takesOver, takeoverOf}
 use Rattle.crossbar.specs.declared.state.Switch.{Switch}
-use Rattle.crossbar.proofs.RateLaws.{overlaid-part, take-overlaid}
+use Rattle.crossbar.proofs.OwnedLaws.{Sized}
 
 pub not-taken : (s : Switch) → takesOver s ≡ false → takeoverOf s ≡ s
 unfolding takeoverOf
@@ -22,10 +23,38 @@ pub taken : (s : Switch) → takesOver s ≡ true → takeoverOf s ≡ withPlans
 unfolding takeoverOf
 taken s e = simp e
 
--- the plan that takes over has the waiting plan's rates
-pub taken-rates : (p q : Plan) → q .ports ≤ mostPorts → length (p .rates) ≡ mostFlows → length (q .rates) ≡ mostFlows → planRates (replaced p q) ≡ planRates q
-taken-rates p q few full-p full-q =
-    let count = q .ports * q .ports in
-    let square : count ≤ mostFlows = square-small (q .ports) few in
-    let part = length-take-le count (q .rates) (omega arith) in
-    ap (take count) (sym (overlaid-part (p .rates) (q .rates) count)) ∙ take-overlaid (p .rates) (planRates q) count part (omega arith)
+pub takes-waiting : (s : Switch) → takesOver s ≡ true → hasWaiting s ≡ true
+takes-waiting s e = and-true (eqb (s .slot) 0) (hasWaiting s) e .1
+
+-- u is s after part 1 of a slot: N, T and all but the plans are those of s, and the rates those of the plan that rules the slot
+pub record Ruled (s u : Switch) : Type 0 where
+  pub rates : planRates (u .running)
+      ≡ cond (takesOver s) (take (s .running .ports * s .running .ports) (s .waiting .rates)) (take (s .running .ports * s .running .ports) (s .running .rates))
+  pub ports : u .running .ports ≡ s .running .ports
+  pub frame : u .running .frame ≡ s .running .frame
+  pub depth : u .depth ≡ s .depth
+  pub slot : u .slot ≡ s .slot
+  pub fabric : u .fabric ≡ s .fabric
+
+pub ruled : (s : Switch) → Sized s → IsValid s → Ruled s (takeoverOf s)
+ruled s size v = go (takesOver s) refl
+  where
+    go : (b : Bool) → takesOver s ≡ b → Ruled s (takeoverOf s)
+    go false e =
+        rw (not-taken s e)
+        record { rates = rw e refl; ports = refl; frame = refl; depth = refl; slot = refl; fabric = refl }
+    go true e =
+        let w = takes-waiting s e in
+        let same = v .same-ports w in
+        rw (taken s e)
+        record {
+          rates =
+              taken-rates (s .running) (s .waiting) (v .waiting w .few-ports) (size .running) (size .waiting)
+              ∙ ap (λ (m : ℕ). take (m * m) (s .waiting .rates)) (sym same)
+              ∙ (rw e refl);
+          ports = sym same;
+          frame = sym (v .same-frame w);
+          depth = refl;
+          slot = refl;
+          fabric = refl;
+        }

@@ -1,67 +1,24 @@
 -- What a valid state is known to have, and that these are the valid ones.
-use Prim.Native.Nat.{ℕ, _+_, _*_, _<_, _≤_}
-use mathlib.Core.Path.{_≡_, refl}
-use mathlib.Core.Bool.{Bool, true, false, not, _&&_, _||_}
+use Prim.Native.Nat.{ℕ, _+_, _*_, _≤_}
+use mathlib.Core.Path.{_≡_}
+use mathlib.Core.Bool.{Bool, true, _&&_}
 use mathlib.Core.List.{List}
 use native.Mathlib.Omega.{arith}
-use lib.Dec.{ltb, leb, eqb}
-use lib.ListN.{getD}
-use borrow.Author.Tests.{ltb-true, leb-true, eqb-true, lt-ltb, le-leb, eq-eqb}
-use Rattle.refusal.specs.Chain.{ifAccepted}
-use Rattle.refusal.specs.declared.Verdict.{Verdict}
-use Rattle.refusal.specs.declared.Verdict.the-variants.{Accepted, Refused}
+use lib.Dec.{ltb, leb}
+use borrow.Author.Tests.{ltb-true, leb-true, lt-ltb, le-leb}
 use Rattle.plan.specs.Lines.{flowOf}
-use Rattle.plan.specs.Accept.{acceptOf}
-use Rattle.plan.specs.declared.Plan.{Plan}
-use Rattle.plan.proofs.BelowLaws.{and-true, all-holds, all-intro}
-use Rattle.plan.proofs.AcceptLaws.{accepted, accepts}
-use Rattle.multiplexer.specs.declared.Multiplexer.{Multiplexer}
-use Rattle.fabric.specs.Flow.{mostDepth, crosspointDepth, noQueue, noPoint, noMultiplexer}
-use Rattle.crossbar.specs.State.{hasWaiting, planRates, depthInRange}
-use Rattle.crossbar.specs.Valid.{planValid, samePorts, plansValid, flowValid, flowsValid, countValid, portValid, portsValid, validOf, IsPlanOf, IsValid}
-use Rattle.fabric.specs.declared.flow.Queue.{Queue}
-use Rattle.fabric.specs.declared.flow.Crosspoint.{Crosspoint}
+use Rattle.plan.proofs.BelowLaws.{and-true}
+use Rattle.planpair.specs.Rates.{planRates}
+use Rattle.planpair.specs.Valid.{plansValid}
+use Rattle.planpair.proofs.ValidLaws.{running-valid, waiting-valid, plans-are-valid}
+use Rattle.fabric.specs.Flow.{mostDepth}
+use Rattle.side.specs.Valid.{portsValid}
+use Rattle.fabric.specs.Valid.{flowsValid}
+use Rattle.side.proofs.ValidLaws.{CountsWithin, ports-valid, ports-are-valid}
+use Rattle.fabric.proofs.ValidLaws.{flows-valid, flows-are-valid}
+use Rattle.crossbar.specs.State.{hasWaiting, depthInRange}
+use Rattle.crossbar.specs.Valid.{validOf, IsValid}
 use Rattle.crossbar.specs.declared.state.Switch.{Switch}
-
--- Plans.
-
-plan-valid : (p : Plan) → planValid p ≡ true → IsPlanOf p
-unfolding planValid
-plan-valid p e = accepted (p .ports) (p .frame) (planRates p) (go (acceptOf (p .ports) (p .frame) (planRates p)) e)
-  where
-    go : (v : Verdict) → ifAccepted v true false ≡ true → v ≡ Accepted
-    go Accepted e = refl
-    go (Refused r) e = let z : _≡_ {A = ℕ} 0 1 = cc in absurd (omega arith)
-
-plan-is-valid : (p : Plan) → IsPlanOf p → planValid p ≡ true
-unfolding planValid
-plan-is-valid p h = simp (accepts (p .ports) (p .frame) (planRates p) h)
-
-module _ (p q : Plan) (waits : Bool) where
-  pub running-valid : plansValid p q waits ≡ true → IsPlanOf p
-  unfolding plansValid
-  running-valid e = plan-valid p (and-true (planValid p) (not waits || (planValid q && samePorts p q)) e .0)
-
-  waiting-valid : plansValid p q waits ≡ true → waits ≡ true → IsPlanOf q × (p .ports ≡ q .ports) × (p .frame ≡ q .frame)
-  unfolding plansValid
-  waiting-valid e w =
-      let rest = and-true (planValid p) (not waits || (planValid q && samePorts p q)) e .1 in
-      let both = and-true (planValid q) (samePorts p q) (rw w at rest) in
-      let same = and-true (eqb (p .ports) (q .ports)) (eqb (p .frame) (q .frame)) (both .1) in
-      (plan-valid q (both .0), eqb-true _ _ (same .0), eqb-true _ _ (same .1))
-
-  plans-are-valid : IsPlanOf p → (waits ≡ true → IsPlanOf q) → (waits ≡ true → p .ports ≡ q .ports) → (waits ≡ true → p .frame ≡ q .frame) → plansValid p q waits ≡ true
-  unfolding plansValid
-  plans-are-valid hp hq ports frame = go waits refl
-    where
-      go : (b : Bool) → waits ≡ b → (planValid p && (not waits || (planValid q && samePorts p q))) ≡ true
-      go true w = simp (plan-is-valid p hp, plan-is-valid q (hq w), w, eq-eqb _ _ (ports w), eq-eqb _ _ (frame w))
-      go false w = simp (plan-is-valid p hp, w)
-
-  -- where all but the last test has passed
-  pub frames-left : planValid p ≡ true → not waits ≡ false → planValid q ≡ true → p .ports ≡ q .ports → eqb (p .frame) (q .frame) ≡ plansValid p q waits
-  unfolding plansValid
-  frames-left a w b e = simp (a, w, b, eq-eqb (p .ports) (q .ports) e)
 
 -- Q.
 
@@ -74,59 +31,6 @@ depth-range depth e =
 pub depth-in : (depth : ℕ) → 1 ≤ depth → depth ≤ mostDepth → depthInRange depth ≡ true
 unfolding depthInRange
 depth-in depth lo hi = simp (le-leb 1 depth lo, le-leb depth mostDepth hi)
-
--- Queues and crosspoints.
-
-abbrev FlowWithin : ℕ → Queue → Crosspoint → Type 0
-FlowWithin depth q x = (q .place < depth) × (q .count ≤ depth) × (x .count ≤ crosspointDepth)
-
-flow-valid : (depth : ℕ) (q : Queue) (x : Crosspoint) → flowValid depth q x ≡ true → FlowWithin depth q x
-flow-valid depth q x e =
-    let last = and-true (ltb (q .place) depth && leb (q .count) depth) (leb (x .count) crosspointDepth) e in
-    let both = and-true (ltb (q .place) depth) (leb (q .count) depth) (last .0) in
-    (ltb-true _ _ (both .0), leb-true _ _ (both .1), leb-true _ _ (last .1))
-
-flow-is-valid : (depth : ℕ) (q : Queue) (x : Crosspoint) → FlowWithin depth q x → flowValid depth q x ≡ true
-flow-is-valid depth q x h = simp (lt-ltb _ _ (h .0), le-leb _ _ (h .1), le-leb _ _ (h .2))
-
-module _ (queues : List Queue) (points : List Crosspoint) (n depth : ℕ) where
-  flows-valid : flowsValid queues points n depth ≡ true → (k : ℕ) → k < n * n → FlowWithin depth (getD queues k noQueue) (getD points k noPoint)
-  unfolding flowsValid
-  flows-valid e k l = flow-valid depth (getD queues k noQueue) (getD points k noPoint) (all-holds _ (n * n) e k l)
-
-  flows-are-valid : ((k : ℕ) → k < n * n → FlowWithin depth (getD queues k noQueue) (getD points k noPoint)) → flowsValid queues points n depth ≡ true
-  unfolding flowsValid
-  flows-are-valid h = all-intro _ (n * n) (λ k l. flow-is-valid depth (getD queues k noQueue) (getD points k noPoint) (h k l))
-
--- Service counts.
-
-abbrev CountWithin : ℕ → ℕ → ℕ → Type 0
-CountWithin slot rate k = (k ≤ rate) × (slot ≡ 0 → k ≡ 0)
-
-count-valid : (slot rate k : ℕ) → countValid slot rate k ≡ true → CountWithin slot rate k
-count-valid slot rate k e =
-    let both = and-true (leb k rate) (not (eqb slot 0) || eqb k 0) e in
-    (leb-true k rate (both .0), λ z. eqb-true k 0 (simp (eq-eqb slot 0 z) at (both .1)))
-
-count-is-valid : (slot rate k : ℕ) → CountWithin slot rate k → countValid slot rate k ≡ true
-count-is-valid slot rate k h = go (eqb slot 0) refl
-  where
-    go : (b : Bool) → eqb slot 0 ≡ b → countValid slot rate k ≡ true
-    go true z = simp (le-leb k rate (h .0), z, eq-eqb k 0 (h .1 (eqb-true slot 0 z)))
-    go false z = simp (le-leb k rate (h .0), z)
-
--- the count of port p's flow f is judged by the rate that stands at this place
-abbrev CountsWithin : List ℕ → List Multiplexer → ℕ → (ℕ → ℕ → ℕ) → ℕ → Type 0
-CountsWithin rates ports n place slot = (p f : ℕ) → p < n → f < n → CountWithin slot (getD rates (place p f) 0) (getD (getD ports p noMultiplexer .served) f 0)
-
-module _ (rates : List ℕ) (ports : List Multiplexer) (n across along slot : ℕ) where
-  ports-valid : portsValid rates ports n across along slot ≡ true → CountsWithin rates ports n (λ p f. p * across + f * along) slot
-  unfolding portsValid portValid
-  ports-valid e p f lp lf = count-valid slot _ _ (all-holds _ n (all-holds _ n e p lp) f lf)
-
-  ports-are-valid : CountsWithin rates ports n (λ p f. p * across + f * along) slot → portsValid rates ports n across along slot ≡ true
-  unfolding portsValid portValid
-  ports-are-valid h = all-intro _ n (λ p lp. all-intro _ n (λ f lf. count-is-valid slot _ _ (h p f lp lf)))
 
 -- The whole state.
 
@@ -156,12 +60,12 @@ module _ (s : Switch) where
   pub valid : validOf s ≡ true → IsValid s
   unfolding validOf
   valid e =
-      let h = all-six (plansValid (s .running) (s .waiting) (hasWaiting s)) (depthInRange (s .depth)) (ltb (s .slot) (s .running .frame)) (flowsValid (s .queues) (s .crosspoints) n (s .depth)) (portsValid rates (s .boards) n n 1 (s .slot)) (portsValid rates (s .heads) n 1 n (s .slot)) e in
+      let h = all-six (plansValid (s .running) (s .waiting) (hasWaiting s)) (depthInRange (s .depth)) (ltb (s .slot) (s .running .frame)) (flowsValid (s .fabric .queues) (s .fabric .crosspoints) n (s .depth)) (portsValid rates (s .fabric .boards) n n 1 (s .slot)) (portsValid rates (s .fabric .heads) n 1 n (s .slot)) e in
       let waiting = waiting-valid (s .running) (s .waiting) (hasWaiting s) (h .0) in
       let depth = depth-range (s .depth) (h .1) in
-      let flow = flows-valid (s .queues) (s .crosspoints) n (s .depth) (h .3) in
-      let board : CountsWithin rates (s .boards) n (flowOf n) (s .slot) = λ i j li lj. rw (board-place i j) at (ports-valid rates (s .boards) n n 1 (s .slot) (h .4) i j li lj) in
-      let head : CountsWithin rates (s .heads) n (λ j i. flowOf n i j) (s .slot) = λ j i lj li. rw (head-place i j) at (ports-valid rates (s .heads) n 1 n (s .slot) (h .5) j i lj li) in
+      let flow = flows-valid (s .fabric .queues) (s .fabric .crosspoints) n (s .depth) (h .3) in
+      let board : CountsWithin rates (s .fabric .boards) n (flowOf n) (s .slot) = λ i j li lj. rw (board-place i j) at (ports-valid rates (s .fabric .boards) n n 1 (s .slot) (h .4) i j li lj) in
+      let head : CountsWithin rates (s .fabric .heads) n (λ j i. flowOf n i j) (s .slot) = λ j i lj li. rw (head-place i j) at (ports-valid rates (s .fabric .heads) n 1 n (s .slot) (h .5) j i lj li) in
       record {
         running = running-valid (s .running) (s .waiting) (hasWaiting s) (h .0);
         waiting = λ w. waiting w .0;
@@ -186,7 +90,7 @@ module _ (s : Switch) where
         plans-are-valid (s .running) (s .waiting) (hasWaiting s) (v .running) (v .waiting) (v .same-ports) (v .same-frame),
         depth-in (s .depth) (v .some-place) (v .few-places),
         lt-ltb (s .slot) (s .running .frame) (v .in-frame),
-        flows-are-valid (s .queues) (s .crosspoints) n (s .depth) (λ k l. (v .queue-place k l, v .queue-count k l, v .crosspoint-count k l)),
-        ports-are-valid rates (s .boards) n n 1 (s .slot) (λ i j li lj. rw (board-place i j) (v .board-count i j li lj, λ z. v .board-zero z i j li lj)),
-        ports-are-valid rates (s .heads) n 1 n (s .slot) (λ j i lj li. rw (head-place i j) (v .head-count i j li lj, λ z. v .head-zero z i j li lj)),
+        flows-are-valid (s .fabric .queues) (s .fabric .crosspoints) n (s .depth) (λ k l. (v .queue-place k l, v .queue-count k l, v .crosspoint-count k l)),
+        ports-are-valid rates (s .fabric .boards) n n 1 (s .slot) (λ i j li lj. rw (board-place i j) (v .board-count i j li lj, λ z. v .board-zero z i j li lj)),
+        ports-are-valid rates (s .fabric .heads) n 1 n (s .slot) (λ j i lj li. rw (head-place i j) (v .head-count i j li lj, λ z. v .head-zero z i j li lj)),
       )

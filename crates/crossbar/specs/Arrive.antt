@@ -26,10 +26,7 @@ withQueues s queues =
       waits = s .waits;
       depth = s .depth;
       slot = s .slot;
-      queues = queues;
-      crosspoints = s .crosspoints;
-      boards = s .boards;
-      heads = s .heads;
+      fabric = record { queues = queues; crosspoints = s .fabric .crosspoints; boards = s .fabric .boards; heads = s .fabric .heads };
     }
 
 abbrev pub longer : Queue → Queue
@@ -63,7 +60,7 @@ arriveOf s store i j cell =
     let q = queueAt s k in
     let v = arriveVerdict s (length store) i j in
     record {
-      reply = record { verdict = v; state = ifAccepted v (withQueues s (set (s .queues) k (longer q))) s };
+      reply = record { verdict = v; state = ifAccepted v (withQueues s (set (s .fabric .queues) k (longer q))) s };
       store = ifAccepted v (set store (cellPlace (s .depth) k q (q .count)) cell) store;
     }
 

@@ -1,6 +1,5 @@
 pub mod State
 pub mod Valid
-pub mod Rates
 pub mod Start
 pub mod Arrive
 pub mod Load

@@ -13,7 +13,7 @@ use Rattle.plan.specs.Accept.{acceptOf, IsPlan}
 use Rattle.plan.specs.declared.Plan.{Plan}
 use Rattle.crossbar.specs.State.{hasWaiting}
 use Rattle.crossbar.specs.Valid.{validOf}
-use Rattle.crossbar.specs.Rates.{overlaid}
+use Rattle.planpair.specs.Rates.{overlaid}
 use Rattle.crossbar.specs.declared.state.Switch.{Switch}
 use Rattle.crossbar.specs.declared.state.Reply.{Reply}
 
@@ -25,10 +25,7 @@ withPlans s running waiting waits =
       waits = waits;
       depth = s .depth;
       slot = s .slot;
-      queues = s .queues;
-      crosspoints = s .crosspoints;
-      boards = s .boards;
-      heads = s .heads;
+      fabric = s .fabric;
     }
 
 unfoldable pub loadVerdict : Switch → ℕ → ℕ → List ℕ → Verdict

@@ -16,7 +16,7 @@ use Rattle.plan.specs.declared.Plan.{Plan}
 use Rattle.multiplexer.specs.declared.Multiplexer.{Multiplexer}
 use Rattle.fabric.specs.Flow.{mostDepth, crosspointDepth}
 use Rattle.crossbar.specs.State.{depthInRange, storeFits}
-use Rattle.crossbar.specs.Rates.{overlaid}
+use Rattle.planpair.specs.Rates.{overlaid}
 use Rattle.fabric.specs.declared.flow.Queue.{Queue}
 use Rattle.fabric.specs.declared.flow.Crosspoint.{Crosspoint}
 use Rattle.crossbar.specs.declared.state.Switch.{Switch}
@@ -40,10 +40,13 @@ freshWith plan depth =
       waits = 0;
       depth = depth;
       slot = 0;
-      queues = replicate mostFlows emptyQueue;
-      crosspoints = replicate mostFlows emptyPoint;
-      boards = replicate mostPorts restedPort;
-      heads = replicate mostPorts restedPort;
+      fabric =
+          record {
+            queues = replicate mostFlows emptyQueue;
+            crosspoints = replicate mostFlows emptyPoint;
+            boards = replicate mostPorts restedPort;
+            heads = replicate mostPorts restedPort;
+          };
     }
 
 abbrev pub planOf : ℕ → ℕ → List ℕ → Plan

@@ -1,13 +1,11 @@
 -- The parts of the state by flow and port.
 use Prim.Native.Nat.{ℕ, _*_}
 use mathlib.Core.Bool.{Bool, _&&_}
-use mathlib.Core.List.{List}
 use lib.Dec.{leb, eqb}
-use lib.ListN.{getD, take}
+use lib.ListN.{getD}
 use Rattle.plan.specs.Flag.{isSet}
-use Rattle.plan.specs.Lines.{flowOf}
-use Rattle.plan.specs.declared.Plan.{Plan}
-use Rattle.fabric.specs.Flow.{mostDepth, noQueue, noPoint, noMultiplexer}
+use Rattle.side.specs.Choices.{noMultiplexer}
+use Rattle.fabric.specs.Flow.{mostDepth, noQueue, noPoint}
 use Rattle.fabric.specs.declared.flow.Queue.{Queue}
 use Rattle.fabric.specs.declared.flow.Crosspoint.{Crosspoint}
 use Rattle.crossbar.specs.declared.state.Switch.{Switch}
@@ -17,24 +15,17 @@ abbrev pub hasWaiting : Switch → Bool
 hasWaiting s = isSet (s .waits)
 
 abbrev pub queueAt : Switch → ℕ → Queue
-queueAt s k = getD (s .queues) k noQueue
+queueAt s k = getD (s .fabric .queues) k noQueue
 
 abbrev pub pointAt : Switch → ℕ → Crosspoint
-pointAt s k = getD (s .crosspoints) k noPoint
-
--- the N × N rates of a plan
-abbrev pub planRates : Plan → List ℕ
-planRates p = take (p .ports * p .ports) (p .rates)
-
-abbrev pub rateAt : Plan → ℕ → ℕ → ℕ
-rateAt p i j = getD (planRates p) (flowOf (p .ports) i j) 0
+pointAt s k = getD (s .fabric .crosspoints) k noPoint
 
 -- how often board i served head j in this frame, and head j board i
 abbrev pub boardCount : Switch → ℕ → ℕ → ℕ
-boardCount s i j = getD (getD (s .boards) i noMultiplexer .served) j 0
+boardCount s i j = getD (getD (s .fabric .boards) i noMultiplexer .served) j 0
 
 abbrev pub headCount : Switch → ℕ → ℕ → ℕ
-headCount s i j = getD (getD (s .heads) j noMultiplexer .served) i 0
+headCount s i j = getD (getD (s .fabric .heads) j noMultiplexer .served) i 0
 
 -- "The queue depth Q is 1 to 64 cells."
 unfoldable pub depthInRange : ℕ → Bool

@@ -5,6 +5,7 @@ use crate::state::Reply;
 use crate::state::Switch;
 use crate::valid::store_fits;
 use fabric::flow::Queue;
+use fabric::places::ring_place;
 use refusal::Refusal;
 use refusal::Verdict;
 
@@ -26,7 +27,8 @@ impl Switch {
         if n <= j {
             return Verdict::Refused(Refusal::NoSuchPort);
         }
-        let queue = self.queues[i * n + j];
+        let fabric = self.fabric;
+        let queue = fabric.queues[i * n + j];
         if depth <= queue.count as usize {
             return Verdict::Refused(Refusal::QueueFull);
         }
@@ -40,23 +42,25 @@ impl Switch {
         let verdict = self.arrive_verdict(store.len(), i, j);
         let Verdict::Accepted = verdict else {
             return Reply {
-                verdict: verdict,
                 state: self,
+                verdict: verdict,
             };
         };
         let depth = self.depth;
         let k = i * self.running.ports + j;
-        let queue = self.queues[k];
-        let next = queue.place as usize + queue.count as usize;
-        store[k * depth + next % depth] = cell;
-        let mut s = self;
-        s.queues[k] = Queue {
+        let mut fabric = self.fabric;
+        let queue = fabric.queues[k];
+        let next = ring_place(queue.place as usize + queue.count as usize, depth);
+        store[k * depth + next] = cell;
+        fabric.queues[k] = Queue {
             place: queue.place,
             count: queue.count + 1,
         };
+        let mut s = self;
+        s.fabric = fabric;
         Reply {
-            verdict: verdict,
             state: s,
+            verdict: verdict,
         }
     }
 }

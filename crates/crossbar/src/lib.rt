@@ -1,9 +1,7 @@
 // The crossbar: the switch's state, and its calls start, arrive, load and step.
 mod arrive;
 mod load;
-mod rates;
 pub mod start;
 pub mod state;
 mod step;
-mod takeover;
 mod valid;

@@ -1,11 +1,11 @@
 // The load of a plan.
 ghost use mathlib.Core.Path.{_≡_};
 ghost use Rattle.crossbar.specs.Load.{loadVerdict, Loads};
-use crate::rates::overlay;
 use crate::state::Reply;
 use crate::state::Switch;
 use plan::Plan;
 use plan::acceptance::accept;
+use planpair::rates::overlay;
 use refusal::Refusal;
 use refusal::Verdict;
 
@@ -39,8 +39,8 @@ impl Switch {
         let verdict = self.load_verdict(n, t, rates);
         let Verdict::Accepted = verdict else {
             return Reply {
-                verdict: verdict,
                 state: self,
+                verdict: verdict,
             };
         };
         let old = self.waiting.rates;
@@ -53,8 +53,8 @@ impl Switch {
         s.waiting = waiting;
         s.waits = 1;
         Reply {
-            verdict: verdict,
             state: s,
+            verdict: verdict,
         }
     }
 }

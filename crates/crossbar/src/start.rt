@@ -1,11 +1,11 @@
 // The start of a switch.
 ghost use mathlib.Core.Path.{_≡_};
 ghost use Rattle.crossbar.specs.Start.{freshWith, startVerdict, Starts};
-use crate::rates::overlay;
 use crate::state::Reply;
 use crate::state::Switch;
 use crate::valid::depth_in_range;
 use crate::valid::store_fits;
+use fabric::Fabric;
 use fabric::flow::Crosspoint;
 use fabric::flow::Queue;
 use multiplexer::Multiplexer;
@@ -14,6 +14,7 @@ use plan::acceptance::accept;
 use plan::no_plan;
 use plan::range::MOST_FLOWS;
 use plan::range::MOST_PORTS;
+use planpair::rates::overlay;
 use refusal::Refusal;
 use refusal::Verdict;
 
@@ -32,16 +33,19 @@ fn fresh_with(plan: Plan, depth: usize) -> Switch
     let crosspoints = [point; MOST_FLOWS];
     let boards = [port; MOST_PORTS];
     let heads = [port; MOST_PORTS];
+    let fabric = Fabric {
+        queues: queues,
+        crosspoints: crosspoints,
+        boards: boards,
+        heads: heads,
+    };
     Switch {
         running: plan,
         waiting: no_plan(),
         waits: 0,
         depth: depth,
         slot: 0,
-        queues: queues,
-        crosspoints: crosspoints,
-        boards: boards,
-        heads: heads,
+        fabric: fabric,
     }
 }
 
@@ -69,8 +73,8 @@ pub fn start(n: usize, t: u32, rates: &[u16], depth: usize, store: &[u32]) -> Re
     let verdict = start_verdict(n, t, rates, depth, store.len());
     let Verdict::Accepted = verdict else {
         return Reply {
-            verdict: verdict,
             state: fresh_with(no_plan(), 0),
+            verdict: verdict,
         };
     };
     let zeros = [0u16; MOST_FLOWS];
@@ -80,7 +84,7 @@ pub fn start(n: usize, t: u32, rates: &[u16], depth: usize, store: &[u32]) -> Re
         rates: overlay(zeros, rates, n * n),
     };
     Reply {
-        verdict: verdict,
         state: fresh_with(plan, depth),
+        verdict: verdict,
     }
 }

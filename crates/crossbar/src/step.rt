@@ -1,126 +1,161 @@
-// One slot of the switch.
-ghost use mathlib.Core.Bool.{true, cond};
+// One slot of the switch. In a step that is refused no port acts: the slot's phases are the same, for 0 ports. With one way
+// through them the compiler copies the state no more than it has to.
+ghost use mathlib.Core.Bool.{true, cond, _&&_};
 ghost use mathlib.Core.Path.{_≡_};
-ghost use Prim.Native.Nat.{_+_, _≤_};
+ghost use Prim.Native.Nat.{_+_, _*_, _≤_};
+ghost use lib.Dec.{eqb};
 ghost use lib.ListN.{length};
-ghost use Rattle.plan.specs.Range.{mostPorts};
 ghost use Rattle.refusal.specs.declared.Verdict.the-variants.{Accepted};
+ghost use Rattle.plan.specs.Range.{mostPorts};
+ghost use Rattle.plan.specs.Flag.{isSet};
+ghost use Rattle.fabric.specs.Flow.{mostDepth};
+ghost use Rattle.side.specs.Columns.{transposed};
+ghost use Rattle.crossbar.specs.State.{storeFits};
 ghost use Rattle.crossbar.specs.Takeover.{takeoverOf};
-ghost use Rattle.crossbar.specs.Step.{ruling, ChosenAs, choicesByRows, choicesByColumns, slotReply, refusedReply, CanRun, Steps, IdlesOnly};
+ghost use Rattle.crossbar.specs.Step.{verdictBy, Judged, Steps, IdlesOnly};
 use crate::state::SlotReply;
 use crate::state::Switch;
 use crate::valid::store_fits;
-use fabric::choices::choose_all;
-use fabric::choices::transpose;
-use fabric::counts::count_all;
-use fabric::flow::Answer;
-use fabric::flow::Port;
-use fabric::moves::move_cells;
 use fabric::moves::room_for_all;
-use fabric::sends::send_cells;
-use multiplexer::Choice;
-use multiplexer::Multiplexer;
-use plan::Plan;
-use plan::range::MOST_PORTS;
+use plan::range::MOST_FLOWS;
+use planpair::takeover::cleared;
+use planpair::takeover::replaced;
 use refusal::Refusal;
 use refusal::Verdict;
+use side::choices::serve_all;
+use side::columns::transpose;
 
-// The slot after this one: the frame's next, or the first of the next frame.
-fn next_slot(slot: u32, ends: bool) -> u32
-    requires { ⌜ slot + 1 ≤ 4294967295 ⌝ }
-    ensures { λ r. ⌜ r ≡ cond ends 0 (slot + 1) ⌝ }
+// How many of n ports act.
+fn acting(n: usize, go: bool) -> usize
+    ensures { λ r. ⌜ r ≡ cond go n 0 ⌝ }
 {
-    if ends {
+    if go {
+        return n;
+    }
+    0
+}
+
+// 12, 7 and 13, in this order.
+fn verdict_by(valid: bool, fits: bool, room: bool) -> Verdict
+    ensures { λ r. ⌜ r ≡ verdictBy valid fits room ⌝ }
+{
+    if !valid {
+        return Verdict::Refused(Refusal::StateInvalid);
+    }
+    if !fits {
+        return Verdict::Refused(Refusal::StoreLength);
+    }
+    if !room {
+        return Verdict::Refused(Refusal::CrosspointFull);
+    }
+    Verdict::Accepted
+}
+
+// Whether a valid state has a store of its length.
+fn fits_if_valid(valid: bool, n: usize, depth: usize, len: usize) -> bool
+    requires { ⌜ (valid ≡ true → (n ≤ mostPorts) × (depth ≤ mostDepth)) ⌝ }
+    ensures { λ r. ⌜ r ≡ (valid && storeFits n depth len) ⌝ }
+{
+    if !valid {
+        return false;
+    }
+    store_fits(n, depth, len)
+}
+
+// Whether a waiting plan takes over.
+fn takes_over(slot: u32, waits: u8) -> bool
+    ensures { λ r. ⌜ r ≡ (eqb slot 0 && isSet waits) ⌝ }
+{
+    if slot != 0 {
+        return false;
+    }
+    waits != 0
+}
+
+// The list that rules the slot; a waiting one need not have taken over yet.
+fn ruling<'a>(running: &'a [u16], waiting: &'a [u16], takeover: bool) -> &'a [u16]
+    ensures { λ r. ⌜ now r ≡ cond takeover (now (waiting .entry)) (now (running .entry)) ⌝ }
+{
+    if takeover {
+        return waiting;
+    }
+    running
+}
+
+// The columns of the list that rules the slot, as the rows of an array.
+fn columns_of<'a>(
+    running: &'a [u16],
+    waiting: &'a [u16],
+    takeover: bool,
+    n: usize,
+    columns: &mut [u16; MOST_FLOWS],
+)
+    requires { ⌜ (n ≤ mostPorts) × (length (now running) ≡ n * n) × (length (now waiting) ≡ n * n) ⌝ }
+    ensures { λ r. ⌜ now (columns .exit) ≡ transposed (cond takeover (now (waiting .entry)) (now (running .entry))) n (now (columns .entry)) n ⌝ }
+{
+    transpose(ruling(running, waiting, takeover), n, columns);
+}
+
+// The slot after one in which n ports acted: the frame's next, or the first of the next frame.
+fn next_slot(n: usize, slot: u32, t: u32) -> u32
+    requires { ⌜ (1 ≤ n → slot + 1 ≤ 4294967295) ⌝ }
+    ensures { λ r. ⌜ r ≡ cond (eqb n 0) slot (cond (eqb (slot + 1) t) 0 (slot + 1)) ⌝ }
+{
+    if n == 0 {
+        return slot;
+    }
+    if slot + 1 == t {
         return 0;
     }
     slot + 1
 }
 
-// The boards' choices by the rows of the plan that rules the slot; a waiting one need not have taken over yet.
-fn board_choices(
-    running: Plan,
-    waiting: Plan,
-    takeover: bool,
-    boards: [Multiplexer; MOST_PORTS],
-    slot: u32,
-) -> [Choice; MOST_PORTS]
-    requires { ⌜ (running .ports ≤ mostPorts) × (takeover ≡ true → running .ports ≡ waiting .ports) ⌝ }
-    ensures { λ r. ⌜ ChosenAs (choicesByRows (ruling takeover running waiting) (running .ports) boards (running .frame) slot) (running .ports) r ⌝ }
-{
-    let n = running.ports;
-    let rates = running.rates;
-    let waiting_rates = waiting.rates;
-    choose_all(
-        boards,
-        &rates[..n * n],
-        &waiting_rates[..n * n],
-        takeover,
-        n,
-        running.frame,
-        slot,
-    )
-}
-
-// The heads' choices by the columns of the running plan.
-fn head_choices(running: Plan, heads: [Multiplexer; MOST_PORTS], slot: u32) -> [Choice; MOST_PORTS]
-    requires { ⌜ running .ports ≤ mostPorts ⌝ }
-    ensures { λ r. ⌜ ChosenAs (choicesByColumns running heads slot) (running .ports) r ⌝ }
-{
-    let n = running.ports;
-    let rates = running.rates;
-    let columns = transpose(&rates[..n * n], n);
-    let rows = &columns[..n * n];
-    choose_all(heads, rows, rows, false, n, running.frame, slot)
-}
-
 impl Switch {
-    fn refused_step(self, refusal: Refusal) -> SlotReply
-        ensures { λ r. ⌜ r ≡ refusedReply self refusal ⌝ }
+    // The slot in which n ports choose, by what was judged of 12 and 7: none do where the step is refused by then. 13 is
+    // judged by the boards' choices; where it refuses, no port acts.
+    fn slot(self, store: &[u32], n: usize, valid: bool, fits: bool) -> SlotReply
+        requires { ⌜ Judged self (length (now store)) n valid fits ⌝ }
+        ensures { λ r. ⌜ Steps self (now (store .entry)) r ⌝ }
     {
-        let idle = [Port {
-            answer: Answer::Idle,
-        }; MOST_PORTS];
-        SlotReply {
-            verdict: Verdict::Refused(refusal),
-            state: self,
-            moves: idle,
-            sends: idle,
-        }
-    }
-
-    // The slot of a state after any takeover, by the boards' choices.
-    fn run_slot(self, store: &[u32], boards: [Choice; MOST_PORTS]) -> SlotReply
-        requires { ⌜ CanRun self (length (now store)) boards ⌝ }
-        ensures { λ r. ⌜ r ≡ slotReply self (now (store .entry)) ⌝ }
-    {
-        let n = self.running.ports;
-        let ends = self.slot + 1 == self.running.frame;
-        let running = self.running;
-        let head_counts = self.heads;
-        let heads = head_choices(running, head_counts, self.slot);
-        let queues = self.queues;
-        let crosspoints = self.crosspoints;
-        let moves = move_cells(queues, crosspoints, store, boards, n, self.depth);
-        let queues_after = moves.queues;
-        let filled = moves.crosspoints;
-        let board_ports = moves.ports;
-        let sends = send_cells(filled, heads, n);
-        let points_after = sends.crosspoints;
-        let head_ports = sends.ports;
-        let board_counts = self.boards;
-        let boards_after = count_all(board_counts, boards, ends, n);
-        let heads_after = count_all(head_counts, heads, ends, n);
         let mut next = self;
-        next.slot = next_slot(self.slot, ends);
-        next.queues = queues_after;
-        next.crosspoints = points_after;
-        next.boards = boards_after;
-        next.heads = heads_after;
+        let rates = self.running.rates;
+        let waiting_rates = self.waiting.rates;
+        let running = &rates[..n * n];
+        let waiting = &waiting_rates[..n * n];
+        let t = self.running.frame;
+        let takeover = takes_over(self.slot, self.waits);
+        let fabric = self.fabric;
+        let board_counts = fabric.boards;
+        let boards = serve_all(board_counts, running, waiting, takeover, n, t, self.slot);
+        let turns = boards.turns;
+        let queues = fabric.queues;
+        let points = fabric.crosspoints;
+        let room = room_for_all(queues, points, turns, n);
+        let m = acting(n, room);
+        let mut columns = [0u16; MOST_FLOWS];
+        columns_of(running, waiting, takeover, n, &mut columns);
+        let rows = &columns[..m * m];
+        let head_counts = fabric.heads;
+        let heads = serve_all(head_counts, rows, rows, false, m, t, self.slot);
+        let ran = fabric.run(store, boards, heads, m, self.depth);
+        let after = ran.fabric;
+        let moves = ran.moves;
+        let sends = ran.sends;
+        let verdict = verdict_by(valid, fits, room);
+        next.slot = next_slot(m, self.slot, t);
+        next.fabric = after;
+        if takeover & (m != 0) {
+            let old = next.running;
+            let taken = next.waiting;
+            next.running = replaced(old, taken);
+            next.waiting = cleared(taken);
+            next.waits = 0;
+        }
         SlotReply {
-            verdict: Verdict::Accepted,
             state: next,
-            moves: board_ports,
-            sends: head_ports,
+            verdict: verdict,
+            moves: moves,
+            sends: sends,
         }
     }
 
@@ -129,22 +164,8 @@ impl Switch {
         ensures defined { λ r. ⌜ Steps self (now (store .entry)) r ⌝ }
         ensures idles { λ r. ⌜ (r .verdict ≡ Accepted → IdlesOnly (takeoverOf self) r) ⌝ }
     {
-        if !self.is_valid() {
-            return self.refused_step(Refusal::StateInvalid);
-        }
-        let n = self.running.ports;
-        if !store_fits(n, self.depth, store.len()) {
-            return self.refused_step(Refusal::StoreLength);
-        }
-        let running = self.running;
-        let waiting = self.waiting;
-        let board_counts = self.boards;
-        let boards = board_choices(running, waiting, self.takes_over(), board_counts, self.slot);
-        let queues = self.queues;
-        let crosspoints = self.crosspoints;
-        if !room_for_all(queues, crosspoints, boards, n) {
-            return self.refused_step(Refusal::CrosspointFull);
-        }
-        self.taken_over().run_slot(store, boards)
+        let valid = self.is_valid();
+        let fits = fits_if_valid(valid, self.running.ports, self.depth, store.len());
+        self.slot(store, acting(self.running.ports, fits), valid, fits)
     }
 }

@@ -1,16 +1,12 @@
--- The number of a flow is small, and the place of a cell is within the store.
+-- The place of a cell is within the store.
 use Prim.Native.Nat.{ℕ, _+_, _*_, _<_, _≤_}
 use mathlib.Core.Path.{_≡_}
 use native.Mathlib.Nat.{mul-le-mul, add-zero, mod-eq-of-lt}
 use native.Mathlib.Omega.{arith}
 use Rattle.plan.specs.Range.{mostPorts, mostFlows}
-use Rattle.plan.specs.Lines.{flowOf}
 use Rattle.fabric.specs.Flow.{mostDepth, cellPlace}
 use Rattle.fabric.specs.declared.flow.Queue.{Queue}
-use Rattle.plan.proofs.LineLaws.{row-within, flow-below, square-small}
-
-pub flow-small : (n i j : ℕ) → n ≤ mostPorts → i < n → j < n → flowOf n i j < mostFlows
-flow-small n i j h hi hj = omega (arith, flow-below n i j hi hj, square-small n h)
+use Rattle.plan.proofs.LineLaws.{row-within, square-small}
 
 -- place p of queue k is below the end of m queues
 pub cell-below : (k m depth p : ℕ) → k < m → p < depth → k * depth + p < m * depth

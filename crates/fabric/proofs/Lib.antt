@@ -1,8 +1,7 @@
-pub mod ListLaws
 pub mod FlowLaws
-pub mod TouchLaws
-pub mod ChoiceLaws
+pub mod CountLaws
 pub mod MoveLaws
 pub mod SendLaws
-pub mod CountLaws
 pub mod NameLaws
+pub mod SlotLaws
+pub mod ValidLaws

@@ -16,19 +16,21 @@ use Rattle.plan.proofs.BelowLaws.{all-holds, all-intro, all-fails}
 use Rattle.plan.proofs.LineLaws.{flow-below, flow-one}
 use Rattle.multiplexer.specs.declared.Choice.{Choice}
 use Rattle.multiplexer.specs.declared.Choice.the-variants.{Idle, Flow}
+use Rattle.multiplexer.specs.declared.Multiplexer.{Multiplexer}
 use Rattle.fabric.specs.Flow.{crosspointDepth, noQueue, noPoint, cellPlace}
 use Rattle.fabric.specs.Answer.{port, answerOf}
-use Rattle.fabric.specs.Choices.{choiceAt, NamesBelow, CanChoose}
-use Rattle.fabric.specs.Moves.{moveNone, moveCell, moveOf, withMove, boardMoves, movesOf, roomIn, roomFor, roomForAll, CanMove, CanMoveAll}
+use Rattle.side.specs.Choices.{choiceAt, NamesBelow, CanChoose}
+use Rattle.fabric.specs.Moves.{Moves, moveNone, moveCell, moveOf, withMove, boardMoves, movesOf, roomIn, roomFor, roomForAll, CanMove, CanMoveAll}
 use Rattle.fabric.specs.declared.flow.Queue.{Queue}
 use Rattle.fabric.specs.declared.flow.Crosspoint.{Crosspoint}
 use Rattle.fabric.specs.declared.flow.Port.{Port}
 use Rattle.fabric.specs.declared.flow.Answer.the-variants as answer
 use Rattle.fabric.specs.declared.moves.Move.{Move}
-use Rattle.fabric.specs.declared.moves.Moves.{Moves}
-use Rattle.fabric.proofs.ListLaws.{getD-repeated}
-use Rattle.fabric.proofs.FlowLaws.{flow-small}
-use Rattle.fabric.proofs.TouchLaws.{untouched, settled, not-yet, done}
+use Rattle.fabric.specs.declared.moves.AfterMoves.{AfterMoves}
+use Rattle.fabric.specs.declared.Fabric.{Fabric}
+use Rattle.side.proofs.ListLaws.{getD-repeated}
+use Rattle.side.proofs.PlaceLaws.{flow-small}
+use Rattle.side.proofs.TouchLaws.{untouched, settled, not-yet, done}
 
 -- what holds of a service that finds no cell, and of one that finds one, holds of a service
 pub move-case : (P : Move → Type 0) (depth j cell : ℕ) (q : Queue) (x : Crosspoint)
@@ -93,6 +95,11 @@ module _ (n : ℕ) (choices : List Choice) (queues : List Queue) (points : List 
   pub room-start : roomBelow 0 ≡ true
   unfolding roomBelow
   room-start = refl
+
+  -- where no board acts
+  pub room-none : roomForAll 0 choices queues points ≡ true
+  unfolding roomForAll
+  room-none = refl
 
   pub room-all : (m : ℕ) → m ≡ n → roomBelow m ≡ roomForAll n choices queues points
   unfolding roomBelow roomForAll
@@ -181,8 +188,8 @@ module _ (n depth : ℕ) (store : List ℕ) (choices : List Choice) (queues : Li
       let is = moves-before (h .choosing .named) m m j (omega arith) (omega arith) hj in
       rw (e, ek, is .queue, is .point)
       (record {
-        some-depth = h .some-depth;
-        few-cells = h .few-cells;
+        some-depth = h .some-depth (omega arith);
+        few-cells = h .few-cells (omega arith);
         place = h .places (flowOf n m j) (flow-below n m j l hj);
         room = room-at n choices queues points (h .room) m j l c;
       })
@@ -267,3 +274,13 @@ module _ (n depth : ℕ) (store : List ℕ) (choices : List Choice) (queues : Li
   -- "What the state holds for ports from N up is neither looked at nor changed."
   pub moves-past : NamesBelow n choices → (k : ℕ) → n * n ≤ k → FlowIs (after n) k (getD queues k noQueue) (getD points k noPoint)
   moves-past named k h = kept n k (λ p l (j, c, e). omega (arith, flow-below n p j l (named p j l c)))
+
+-- the fabric after the moves, put together from the lists that they change and those that stay
+pub moved-whole : (a b : Fabric) (ports : List Port) (m : Moves) → a .boards ≡ b .boards → a .heads ≡ b .heads
+    → _≡_ {A = Moves} (record { queues = a .queues; crosspoints = a .crosspoints; ports = ports }) m
+    → _≡_ {A = AfterMoves} (record { fabric = a; ports = ports })
+    (record { fabric = record { queues = m .queues; crosspoints = m .crosspoints; boards = b .boards; heads = b .heads }; ports = m .ports })
+moved-whole a b ports m eb eh e =
+    ap {A = List Multiplexer} {B = AfterMoves} (λ x. record { fabric = record { queues = a .queues; crosspoints = a .crosspoints; boards = x; heads = a .heads }; ports = ports }) eb
+    ∙ ap {A = List Multiplexer} {B = AfterMoves} (λ x. record { fabric = record { queues = a .queues; crosspoints = a .crosspoints; boards = b .boards; heads = x }; ports = ports }) eh
+    ∙ ap {A = Moves} {B = AfterMoves} (λ x. record { fabric = record { queues = x .queues; crosspoints = x .crosspoints; boards = b .boards; heads = b .heads }; ports = x .ports }) e

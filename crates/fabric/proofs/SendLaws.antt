@@ -14,18 +14,21 @@ use Rattle.plan.specs.Lines.{flowOf}
 use Rattle.plan.proofs.LineLaws.{flow-below, flow-one}
 use Rattle.multiplexer.specs.declared.Choice.{Choice}
 use Rattle.multiplexer.specs.declared.Choice.the-variants.{Idle, Flow}
+use Rattle.multiplexer.specs.declared.Multiplexer.{Multiplexer}
 use Rattle.fabric.specs.Flow.{noPoint}
 use Rattle.fabric.specs.Answer.{port, answerOf}
-use Rattle.fabric.specs.Choices.{choiceAt, NamesBelow, CanChoose}
-use Rattle.fabric.specs.Sends.{sendNone, sendCell, sendOf, headSends, sendsOf}
+use Rattle.side.specs.Choices.{choiceAt, NamesBelow, CanChoose}
+use Rattle.fabric.specs.Sends.{Sends, sendNone, sendCell, sendOf, headSends, sendsOf}
 use Rattle.fabric.specs.declared.flow.Crosspoint.{Crosspoint}
 use Rattle.fabric.specs.declared.flow.Port.{Port}
 use Rattle.fabric.specs.declared.flow.Answer.the-variants as answer
 use Rattle.fabric.specs.declared.sends.Send.{Send}
-use Rattle.fabric.specs.declared.sends.Sends.{Sends}
-use Rattle.fabric.proofs.ListLaws.{getD-repeated}
-use Rattle.fabric.proofs.FlowLaws.{flow-small}
-use Rattle.fabric.proofs.TouchLaws.{untouched, settled, not-yet, done}
+use Rattle.fabric.specs.declared.sends.AfterSends.{AfterSends}
+use Rattle.fabric.specs.declared.flow.Queue.{Queue}
+use Rattle.fabric.specs.declared.Fabric.{Fabric}
+use Rattle.side.proofs.ListLaws.{getD-repeated}
+use Rattle.side.proofs.PlaceLaws.{flow-small}
+use Rattle.side.proofs.TouchLaws.{untouched, settled, not-yet, done}
 
 -- what holds of a service that finds no cell, and of one that finds one, holds of a service
 pub send-case : (P : Send → Type 0) (i : ℕ) (x : Crosspoint) → (x .count ≡ 0 → P (sendNone i x)) → (1 ≤ x .count → P (sendCell i x)) → P (sendOf i x)
@@ -159,3 +162,14 @@ module _ (n : ℕ) (choices : List Choice) (points : List Crosspoint) where
   -- "What the state holds for ports from N up is neither looked at nor changed."
   pub sends-past : NamesBelow n choices → (k : ℕ) → n * n ≤ k → getD (after n .crosspoints) k noPoint ≡ getD points k noPoint
   sends-past named k h = kept n k (λ p l (i, c, e). omega (arith, flow-below n i p (named p i l c) l))
+
+-- the fabric after the sends, put together from the lists that they change and those that stay
+pub sent-whole : (a b : Fabric) (ports : List Port) (s : Sends) → a .queues ≡ b .queues → a .boards ≡ b .boards → a .heads ≡ b .heads
+    → _≡_ {A = Sends} (record { crosspoints = a .crosspoints; ports = ports }) s
+    → _≡_ {A = AfterSends} (record { fabric = a; ports = ports })
+    (record { fabric = record { queues = b .queues; crosspoints = s .crosspoints; boards = b .boards; heads = b .heads }; ports = s .ports })
+sent-whole a b ports s eq eb eh e =
+    ap {A = List Queue} {B = AfterSends} (λ x. record { fabric = record { queues = x; crosspoints = a .crosspoints; boards = a .boards; heads = a .heads }; ports = ports }) eq
+    ∙ ap {A = List Multiplexer} {B = AfterSends} (λ x. record { fabric = record { queues = b .queues; crosspoints = a .crosspoints; boards = x; heads = a .heads }; ports = ports }) eb
+    ∙ ap {A = List Multiplexer} {B = AfterSends} (λ x. record { fabric = record { queues = b .queues; crosspoints = a .crosspoints; boards = b .boards; heads = x }; ports = ports }) eh
+    ∙ ap {A = Sends} {B = AfterSends} (λ x. record { fabric = record { queues = b .queues; crosspoints = x .crosspoints; boards = b .boards; heads = b .heads }; ports = x .ports }) e

@@ -1,7 +1,6 @@
--- The flows of the switch: queues and crosspoints, and the ports' multiplexers, in lists.
+-- The flows of the switch: queues and crosspoints, in lists.
 use Prim.Native.Nat.{ℕ, _+_, _*_, _%_}
 use mathlib.Core.List.{[]}
-use Rattle.multiplexer.specs.declared.Multiplexer.{Multiplexer}
 use Rattle.fabric.specs.declared.flow.Queue.{Queue}
 use Rattle.fabric.specs.declared.flow.Crosspoint.{Crosspoint}
 
@@ -19,9 +18,6 @@ noQueue = record { place = 0; count = 0 }
 
 abbrev pub noPoint : Crosspoint
 noPoint = record { cells = []; count = 0 }
-
-abbrev pub noMultiplexer : Multiplexer
-noMultiplexer = record { served = [] }
 
 -- "flow (i, j) has the Q places from (i × N + j) × Q. The first cell goes to its first place, each later one to the
 -- next place, and after the last place the first again." Where cell number m of a queue stands, the oldest being 0.

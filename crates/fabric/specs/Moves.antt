@@ -12,12 +12,14 @@ use Rattle.multiplexer.specs.declared.Choice.{Choice}
 use Rattle.multiplexer.specs.declared.Choice.the-variants.{Idle, Flow}
 use Rattle.fabric.specs.Flow.{mostDepth, crosspointDepth, noQueue, noPoint, cellPlace}
 use Rattle.fabric.specs.Answer.{port, allIdle}
-use Rattle.fabric.specs.Choices.{choiceAt, CanChoose}
+use Rattle.side.specs.Choices.{choiceAt, CanChoose}
 use Rattle.fabric.specs.declared.flow.Answer.the-variants.{Empty, Moved}
 use Rattle.fabric.specs.declared.flow.Queue.{Queue}
 use Rattle.fabric.specs.declared.flow.Crosspoint.{Crosspoint}
 use Rattle.fabric.specs.declared.moves.Move.{Move}
-use Rattle.fabric.specs.declared.moves.Moves.{Moves}
+use Rattle.fabric.specs.declared.moves.AfterMoves.{AfterMoves}
+use Rattle.fabric.specs.declared.flow.Port.{Port}
+use Rattle.fabric.specs.declared.Fabric.{Fabric}
 
 -- a queue without its oldest cell
 abbrev pub shorter : ℕ → Queue → Queue
@@ -38,6 +40,12 @@ moveCell depth j cell q x = record { queue = shorter depth q; point = filled cel
 -- what a board's service of head j makes of its queue, whose oldest cell is `cell`, and of its crosspoint
 unfoldable pub moveOf : ℕ → ℕ → ℕ → Queue → Crosspoint → Move
 moveOf depth j cell q x = cond (eqb (q .count) 0) (moveNone j q x) (moveCell depth j cell q x)
+
+-- what the boards' services change
+pub record Moves : Type 0 where
+  pub queues : List Queue
+  pub crosspoints : List Crosspoint
+  pub ports : List Port
 
 -- the move of flow k in the queues, crosspoints and answers so far
 abbrev pub moveAt : ℕ → List ℕ → ℕ → ℕ → Moves → Move
@@ -60,6 +68,15 @@ movesOf n depth store choices queues points zero = record { queues = queues; cro
 movesOf n depth store choices queues points (suc m) =
     boardMoves n depth store m (choiceAt choices m) (movesOf n depth store choices queues points m)
 
+-- the same on the fabric, whose counts stay: all n boards
+abbrev pub movedOf : ℕ → ℕ → List ℕ → List Choice → Fabric → AfterMoves
+movedOf n depth store choices f =
+    let m = movesOf n depth store choices (f .queues) (f .crosspoints) n in
+    record {
+      fabric = record { queues = m .queues; crosspoints = m .crosspoints; boards = f .boards; heads = f .heads };
+      ports = m .ports;
+    }
+
 -- whether a service leaves its crosspoint at two cells or fewer
 abbrev pub roomIn : Queue → Crosspoint → Bool
 roomIn q x = eqb (q .count) 0 || ltb (x .count) crosspointDepth
@@ -81,11 +98,11 @@ pub record CanMove (depth : ℕ) (q : Queue) (x : Crosspoint) : Type 0 where
   pub place : q .place < depth
   pub room : roomIn q x ≡ true
 
--- and of all moves of a slot.
+-- and of all moves of a slot, in which none may act.
 pub record CanMoveAll (n depth len : ℕ) (choices : List Choice) (queues : List Queue) (points : List Crosspoint) : Type 0 where
   pub choosing : CanChoose n choices
-  pub some-depth : 1 ≤ depth
-  pub few-cells : depth ≤ mostDepth
-  pub fits : len ≡ n * n * depth
+  pub some-depth : 1 ≤ n → 1 ≤ depth
+  pub few-cells : 1 ≤ n → depth ≤ mostDepth
+  pub fits : 1 ≤ n → len ≡ n * n * depth
   pub room : roomForAll n choices queues points ≡ true
   pub places : (k : ℕ) → k < n * n → getD queues k noQueue .place < depth

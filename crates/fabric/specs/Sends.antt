@@ -11,11 +11,13 @@ use Rattle.multiplexer.specs.declared.Choice.{Choice}
 use Rattle.multiplexer.specs.declared.Choice.the-variants.{Idle, Flow}
 use Rattle.fabric.specs.Flow.{noPoint}
 use Rattle.fabric.specs.Answer.{port, allIdle}
-use Rattle.fabric.specs.Choices.{choiceAt}
+use Rattle.side.specs.Choices.{choiceAt}
 use Rattle.fabric.specs.declared.flow.Answer.the-variants.{Empty, Moved}
 use Rattle.fabric.specs.declared.flow.Crosspoint.{Crosspoint}
 use Rattle.fabric.specs.declared.sends.Send.{Send}
-use Rattle.fabric.specs.declared.sends.Sends.{Sends}
+use Rattle.fabric.specs.declared.sends.AfterSends.{AfterSends}
+use Rattle.fabric.specs.declared.flow.Port.{Port}
+use Rattle.fabric.specs.declared.Fabric.{Fabric}
 
 -- the cells after the oldest one left: of two the second moves up, and the place behind the last cell is 0
 abbrev pub movedUp : Crosspoint → List ℕ
@@ -40,6 +42,11 @@ sendCell i x = record { point = withoutOldest x; port = port (Moved i (getD (x .
 unfoldable pub sendOf : ℕ → Crosspoint → Send
 sendOf i x = cond (eqb (x .count) 0) (sendNone i x) (sendCell i x)
 
+-- what the heads' services change
+pub record Sends : Type 0 where
+  pub crosspoints : List Crosspoint
+  pub ports : List Port
+
 -- head j's part of the slot
 unfoldable pub headSends : ℕ → ℕ → Choice → Sends → Sends
 headSends n j Idle f = f
@@ -52,3 +59,12 @@ headSends n j (Flow i) f =
 unfoldable pub sendsOf : ℕ → List Choice → List Crosspoint → ℕ → Sends
 sendsOf n choices points zero = record { crosspoints = points; ports = allIdle }
 sendsOf n choices points (suc m) = headSends n m (choiceAt choices m) (sendsOf n choices points m)
+
+-- the same on the fabric, whose queues and counts stay: all n heads
+abbrev pub sentOf : ℕ → List Choice → Fabric → AfterSends
+sentOf n choices f =
+    let s = sendsOf n choices (f .crosspoints) n in
+    record {
+      fabric = record { queues = f .queues; crosspoints = s .crosspoints; boards = f .boards; heads = f .heads };
+      ports = s .ports;
+    }

@@ -1,18 +1,22 @@
 // The board's half of a slot: each chosen flow moves a cell from its queue to its crosspoint.
 ghost use mathlib.Core.Path.{_≡_};
-ghost use lib.ListN.{length};
-ghost use Rattle.fabric.specs.Choices.{CanChoose};
-ghost use Rattle.fabric.specs.Moves.{moveOf, movesOf, roomIn, roomForAll, CanMove, CanMoveAll};
+ghost use Prim.Native.Nat.{_<_};
+ghost use lib.ListN.{length, set};
+ghost use Rattle.fabric.specs.Flow.{crosspointDepth};
+ghost use Rattle.side.specs.Choices.{choicesIn, CanChoose};
+ghost use Rattle.fabric.specs.Moves.{moveOf, movedOf, roomIn, roomForAll, CanMove, CanMoveAll};
+use crate::Fabric;
 use crate::flow::Answer;
 use crate::flow::CROSSPOINT_DEPTH;
 use crate::flow::Crosspoint;
 use crate::flow::Port;
 use crate::flow::Queue;
-use crate::places::flow_place;
 use crate::places::oldest_place;
-use multiplexer::Choice;
+use crate::places::ring_place;
 use plan::range::MOST_FLOWS;
 use plan::range::MOST_PORTS;
+use side::choices::Turn;
+use side::places::flow_place;
 
 // What one board's service makes of its flow.
 pub struct Move {
@@ -21,12 +25,10 @@ pub struct Move {
     pub port: Port,
 }
 
-// What the boards' services change. With the ports between them, the compiler keeps the two long arrays apart and copies
-// neither once more on the way to the sends.
-pub struct Moves {
-    pub queues: [Queue; MOST_FLOWS],
+// The fabric after the boards' services, and their answers.
+pub struct AfterMoves {
+    pub fabric: Fabric,
     pub ports: [Port; MOST_PORTS],
-    pub crosspoints: [Crosspoint; MOST_FLOWS],
 }
 
 // Whether a service leaves the crosspoint at two cells or fewer.
@@ -39,22 +41,22 @@ fn has_room(queue: Queue, point: Crosspoint) -> bool
     point.count < CROSSPOINT_DEPTH
 }
 
-// Whether no board's service puts a third cell in a crosspoint.
+// Number 13: whether no board's service puts a third cell in a crosspoint.
 pub fn room_for_all(
     queues: [Queue; MOST_FLOWS],
     crosspoints: [Crosspoint; MOST_FLOWS],
-    choices: [Choice; MOST_PORTS],
+    turns: [Turn; MOST_PORTS],
     n: usize,
 ) -> bool
-    requires { ⌜ CanChoose n choices ⌝ }
-    ensures { λ r. ⌜ r ≡ roomForAll n choices queues crosspoints ⌝ }
+    requires { ⌜ CanChoose n (choicesIn turns) ⌝ }
+    ensures { λ r. ⌜ r ≡ roomForAll n (choicesIn turns) queues crosspoints ⌝ }
 {
     for i in 0..n {
-        let choice = choices[i];
-        let Choice::Flow(j) = choice else {
+        let turn = turns[i];
+        if !turn.serves {
             continue;
-        };
-        let k = flow_place(n, i, j);
+        }
+        let k = flow_place(n, i, turn.other as usize);
         let queue = queues[k];
         let point = crosspoints[k];
         if !has_room(queue, point) {
@@ -62,6 +64,21 @@ pub fn room_for_all(
         }
     }
     true
+}
+
+// The crosspoint's cells with one more behind `count` others. Each place is written as it stands in the code: a processor
+// waits for a store to a computed place before it reads the two as one.
+fn with_cell(cells: [u32; 2], count: u8, cell: u32) -> [u32; 2]
+    requires { ⌜ count < crosspointDepth ⌝ }
+    ensures { λ r. ⌜ r ≡ set cells count cell ⌝ }
+{
+    let mut filled = cells;
+    if count == 0 {
+        filled[0] = cell;
+        return filled;
+    }
+    filled[1] = cell;
+    filled
 }
 
 // The oldest cell of a queue goes to the crosspoint of head j, if there is one.
@@ -78,17 +95,16 @@ fn move_cell(queue: Queue, point: Crosspoint, cell: u32, j: usize, depth: usize)
             },
         };
     }
-    let next = (queue.place as usize + 1) % depth;
-    let mut cells = point.cells;
-    let at = point.count as usize;
-    cells[at] = cell;
+    let next = ring_place(queue.place as usize + 1, depth);
+    let cells = point.cells;
+    let filled = with_cell(cells, point.count, cell);
     Move {
         queue: Queue {
             place: next as u8,
             count: queue.count - 1,
         },
         point: Crosspoint {
-            cells: cells,
+            cells: filled,
             count: point.count + 1,
         },
         port: Port {
@@ -97,41 +113,42 @@ fn move_cell(queue: Queue, point: Crosspoint, cell: u32, j: usize, depth: usize)
     }
 }
 
-// The services of all boards.
-pub fn move_cells(
-    mut queues: [Queue; MOST_FLOWS],
-    mut crosspoints: [Crosspoint; MOST_FLOWS],
-    store: &[u32],
-    choices: [Choice; MOST_PORTS],
-    n: usize,
-    depth: usize,
-) -> Moves
-    requires { ⌜ CanMoveAll n depth (length (now store)) choices queues crosspoints ⌝ }
-    ensures { λ r. ⌜ r ≡ movesOf n depth (now (store .entry)) choices queues crosspoints n ⌝ }
-{
-    let mut ports = [Port {
-        answer: Answer::Idle,
-    }; MOST_PORTS];
-    for i in 0..n {
-        let choice = choices[i];
-        let Choice::Flow(j) = choice else {
-            continue;
-        };
-        let k = flow_place(n, i, j);
-        let queue = queues[k];
-        let point = crosspoints[k];
-        let cell = store[oldest_place(n, depth, k, queue)];
-        let moved = move_cell(queue, point, cell, j, depth);
-        let queue_after = moved.queue;
-        let point_after = moved.point;
-        let port = moved.port;
-        queues[k] = queue_after;
-        crosspoints[k] = point_after;
-        ports[i] = port;
-    }
-    Moves {
-        queues: queues,
-        crosspoints: crosspoints,
-        ports: ports,
+impl Fabric {
+    // The services of the boards below n.
+    pub fn moved(
+        mut self,
+        store: &[u32],
+        turns: [Turn; MOST_PORTS],
+        n: usize,
+        depth: usize,
+    ) -> AfterMoves
+        requires { ⌜ CanMoveAll n depth (length (now store)) (choicesIn turns) (self .queues) (self .crosspoints) ⌝ }
+        ensures { λ r. ⌜ r ≡ movedOf n depth (now (store .entry)) (choicesIn turns) self ⌝ }
+    {
+        let mut ports = [Port {
+            answer: Answer::Idle,
+        }; MOST_PORTS];
+        for i in 0..n {
+            let turn = turns[i];
+            if !turn.serves {
+                continue;
+            }
+            let j = turn.other as usize;
+            let k = flow_place(n, i, j);
+            let queue = self.queues[k];
+            let point = self.crosspoints[k];
+            let cell = store[oldest_place(n, depth, k, queue)];
+            let moved = move_cell(queue, point, cell, j, depth);
+            let queue_after = moved.queue;
+            let point_after = moved.point;
+            let port = moved.port;
+            self.queues[k] = queue_after;
+            self.crosspoints[k] = point_after;
+            ports[i] = port;
+        }
+        AfterMoves {
+            fabric: self,
+            ports: ports,
+        }
     }
 }

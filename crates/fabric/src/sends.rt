@@ -1,14 +1,14 @@
 // The head's half of a slot: each chosen flow sends a cell from its crosspoint.
 ghost use mathlib.Core.Path.{_≡_};
-ghost use Rattle.fabric.specs.Choices.{CanChoose};
-ghost use Rattle.fabric.specs.Sends.{movedUp, sendOf, sendsOf};
+ghost use Rattle.side.specs.Choices.{choicesIn, CanChoose};
+ghost use Rattle.fabric.specs.Sends.{movedUp, sendOf, sentOf};
+use crate::Fabric;
 use crate::flow::Answer;
 use crate::flow::Crosspoint;
 use crate::flow::Port;
-use crate::places::flow_place;
-use multiplexer::Choice;
-use plan::range::MOST_FLOWS;
 use plan::range::MOST_PORTS;
+use side::choices::Turn;
+use side::places::flow_place;
 
 // What one head's service makes of its flow.
 pub struct Send {
@@ -16,9 +16,9 @@ pub struct Send {
     pub port: Port,
 }
 
-// What the heads' services change.
-pub struct Sends {
-    pub crosspoints: [Crosspoint; MOST_FLOWS],
+// The fabric after the heads' services, and their answers.
+pub struct AfterSends {
+    pub fabric: Fabric,
     pub ports: [Port; MOST_PORTS],
 }
 
@@ -62,33 +62,32 @@ fn send_cell(point: Crosspoint, i: usize) -> Send
     }
 }
 
-// The services of all heads.
-pub fn send_cells(
-    mut crosspoints: [Crosspoint; MOST_FLOWS],
-    choices: [Choice; MOST_PORTS],
-    n: usize,
-) -> Sends
-    requires { ⌜ CanChoose n choices ⌝ }
-    ensures { λ r. ⌜ r ≡ sendsOf n choices crosspoints n ⌝ }
-{
-    let mut ports = [Port {
-        answer: Answer::Idle,
-    }; MOST_PORTS];
-    for j in 0..n {
-        let choice = choices[j];
-        let Choice::Flow(i) = choice else {
-            continue;
-        };
-        let k = flow_place(n, i, j);
-        let point = crosspoints[k];
-        let sent = send_cell(point, i);
-        let point_after = sent.point;
-        let port = sent.port;
-        crosspoints[k] = point_after;
-        ports[j] = port;
-    }
-    Sends {
-        crosspoints: crosspoints,
-        ports: ports,
+impl Fabric {
+    // The services of the heads below n.
+    pub fn sent(mut self, turns: [Turn; MOST_PORTS], n: usize) -> AfterSends
+        requires { ⌜ CanChoose n (choicesIn turns) ⌝ }
+        ensures { λ r. ⌜ r ≡ sentOf n (choicesIn turns) self ⌝ }
+    {
+        let mut ports = [Port {
+            answer: Answer::Idle,
+        }; MOST_PORTS];
+        for j in 0..n {
+            let turn = turns[j];
+            if !turn.serves {
+                continue;
+            }
+            let i = turn.other as usize;
+            let k = flow_place(n, i, j);
+            let point = self.crosspoints[k];
+            let sent = send_cell(point, i);
+            let point_after = sent.point;
+            let port = sent.port;
+            self.crosspoints[k] = point_after;
+            ports[j] = port;
+        }
+        AfterSends {
+            fabric: self,
+            ports: ports,
+        }
     }
 }

@@ -17,7 +17,7 @@ use Rattle.planfile.specs.Read.{readOf}
 use Rattle.planfile.specs.declared.Reading.{Reading}
 use Rattle.planfile.proofs.CutLaws.{read-cut}
 use Rattle.planfile.proofs.ReadLaws.{accepted-plan}
-use Rattle.crossbar.specs.State.{planRates}
+use Rattle.planpair.specs.Rates.{planRates}
 use Rattle.crossbar.specs.Start.{startOf}
 use Rattle.crossbar.specs.Step.{stepOf}
 use Rattle.crossbar.specs.declared.state.Reply.{Reply}

@@ -16,7 +16,7 @@ use Rattle.fabric.specs.Answer.{answerOf}
 use Rattle.fabric.specs.declared.flow.Answer.{Answer}
 use Rattle.fabric.specs.declared.flow.Answer.the-variants.{Idle, Empty, Moved}
 use Rattle.fabric.specs.declared.flow.Port.{Port}
-use Rattle.crossbar.specs.State.{planRates}
+use Rattle.planpair.specs.Rates.{planRates}
 use Rattle.crossbar.specs.Start.{startOf}
 use Rattle.crossbar.specs.Step.{stepOf}
 use Rattle.crossbar.specs.declared.state.Switch.{Switch}

@@ -5,7 +5,7 @@ use lib.ListN.{length}
 use Rattle.refusal.specs.Number.{verdictNumberOf}
 use Rattle.regulator.specs.Outcome.{Outcome}
 use Rattle.crossbar.specs.Arrive.{Arrival}
-use Rattle.crossbar.specs.Rates.{overlaid}
+use Rattle.planpair.specs.Rates.{overlaid}
 use Rattle.gambyre.specs.Records.{replyRecord}
 use Rattle.gambyre.specs.declared.records.ReplyRecord.{ReplyRecord}
 

@@ -2,7 +2,8 @@
 // kinds are enums in the header, and an enum of C has 32 bits.
 ghost use mathlib.Core.Path.{_≡_};
 ghost use Rattle.refusal.specs.Number.{verdictNumberOf};
-ghost use Rattle.gambyre.specs.Records.{answerRecord, portRecords, choiceRecord, choiceIn, replyRecord, slotRecord, readingRecord};
+ghost use Rattle.fabric.specs.Answer.{kindOf};
+ghost use Rattle.gambyre.specs.Records.{otherOf, cellOf, answerRecord, portRecords, choiceRecord, choiceIn, replyRecord, slotRecord, readingRecord};
 use crossbar::state::Reply;
 use crossbar::state::SlotReply;
 use crossbar::state::Switch;
@@ -67,26 +68,45 @@ pub fn verdict_number(verdict: Verdict) -> u32
     verdict.number() as u32
 }
 
+fn kind_of(answer: Answer) -> u32
+    ensures { λ r. ⌜ r ≡ kindOf answer ⌝ }
+{
+    match answer {
+        Answer::Idle => IDLE,
+        Answer::Empty(_) => EMPTY,
+        Answer::Moved(_, _) => MOVED,
+    }
+}
+
+fn other_of(answer: Answer) -> usize
+    ensures { λ r. ⌜ r ≡ otherOf answer ⌝ }
+{
+    match answer {
+        Answer::Idle => 0,
+        Answer::Empty(other) => other,
+        Answer::Moved(other, _) => other,
+    }
+}
+
+fn cell_of(answer: Answer) -> u32
+    ensures { λ r. ⌜ r ≡ cellOf answer ⌝ }
+{
+    match answer {
+        Answer::Idle => 0,
+        Answer::Empty(_) => 0,
+        Answer::Moved(_, cell) => cell,
+    }
+}
+
+// Field by field: a processor need not foresee which kind comes.
 fn port_record(port: Port) -> PortRecord
     ensures { λ r. ⌜ r ≡ answerRecord (port .answer) ⌝ }
 {
     let answer = port.answer;
-    match answer {
-        Answer::Idle => PortRecord {
-            kind: IDLE,
-            other: 0,
-            cell: 0,
-        },
-        Answer::Empty(other) => PortRecord {
-            kind: EMPTY,
-            other,
-            cell: 0,
-        },
-        Answer::Moved(other, cell) => PortRecord {
-            kind: MOVED,
-            other,
-            cell,
-        },
+    PortRecord {
+        kind: kind_of(answer),
+        other: other_of(answer),
+        cell: cell_of(answer),
     }
 }
 

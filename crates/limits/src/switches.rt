@@ -92,11 +92,13 @@ pub fn slot(s: u32) {
 pub fn crosspoint(count: u8) {
     let started = one_port(1, &[7; 1]);
     let mut state = started.state;
-    state.queues[0] = Queue { place: 0, count: 1 };
+    let mut fabric = state.fabric;
+    fabric.queues[0] = Queue { place: 0, count: 1 };
     let cells = [8u32; 2];
-    state.crosspoints[0] = Crosspoint {
+    fabric.crosspoints[0] = Crosspoint {
         cells: cells,
         count: count,
     };
+    state.fabric = fabric;
     step(b"queue at 1, crosspoint at ", count as usize, state);
 }

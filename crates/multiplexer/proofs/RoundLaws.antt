@@ -1,4 +1,4 @@
--- Quotients rounded up are compared by products, and deadlines stay below 2 ^ 48.
+-- Quotients rounded up are compared by products, and deadlines stay below 2 ^ 64 − 1.
 use Prim.Native.Nat.{ℕ, suc, _+_, _-_, _*_, _/_, _<_, _≤_}
 use mathlib.Core.Path.{_≡_, ap}
 use mathlib.Core.Logic.{⊎-elim}
@@ -6,18 +6,18 @@ use native.Mathlib.Nat.{mul-le-mul, div-le-self, div-lt-iff-lt-mul}
 use native.Mathlib.Omega.{arith}
 use Rattle.plan.proofs.BelowLaws.{lt-or-le}
 use Rattle.multiplexer.specs.Choose.{roundedUp, deadline}
-use Rattle.multiplexer.specs.Candidate.{noDeadline, never}
+use Rattle.multiplexer.specs.Candidate.{never}
 
 pub quotient-rounded : (x y a : ℕ) → y ≡ x + (a - 1) → y / a ≡ roundedUp x a
 unfolding roundedUp
 quotient-rounded x y a e = ap (λ (z : ℕ). z / a) e
 
 module _ (x a D : ℕ) (pos : 0 < a) where
-  pub rounded-lt : x + a ≤ D * a → roundedUp x a < D
+  rounded-lt : x + a ≤ D * a → roundedUp x a < D
   unfolding roundedUp
   rounded-lt h = div-lt-iff-lt-mul {k = a} {x = x + (a - 1)} {y = D} pos .1 (omega arith)
 
-  pub lt-rounded : roundedUp x a < D → x + a ≤ D * a
+  lt-rounded : roundedUp x a < D → x + a ≤ D * a
   unfolding roundedUp
   lt-rounded h = omega (arith, div-lt-iff-lt-mul {k = a} {x = x + (a - 1)} {y = D} pos .0 h)
 
@@ -39,10 +39,6 @@ module _ (x a D : ℕ) (pos : 0 < a) where
 pub product-small : (a b : ℕ) → a < 65536 → b < 4294967296 → a * b ≤ 281470681677825
 product-small a b ha hb = mul-le-mul {n₁ = a} {m₁ = b} {n₂ = 65535} {m₂ = 4294967295} (omega arith) (omega arith)
 
-pub deadline-small : (a k T : ℕ) → a < 65536 → k < 65536 → T < 4294967296 → deadline a k T < noDeadline
+pub deadline-small : (a k T : ℕ) → a < 65536 → k < 65536 → T < 4294967296 → deadline a k T < never
 unfolding roundedUp
 deadline-small a k T ha hk hT = omega (arith, product-small k T hk hT, div-le-self ((k + 1) * T + (a - 1)) a)
-
--- a deadline's product with a rate
-pub deadline-product : (d a : ℕ) → d ≤ noDeadline → a < 65536 → d * a < never
-deadline-product d a hd ha = omega (arith, mul-le-mul {n₁ = d} {m₁ = a} {n₂ = 281474976710656} {m₂ = 65535} hd (omega arith))

@@ -1,19 +1,23 @@
 // One port's multiplexer: which flow a slot goes to, and how often each flow was served in this frame.
 ghost use mathlib.Core.Path.{_≡_};
-ghost use Prim.Native.Nat.{_<_, _≤_, min};
-ghost use lib.ListN.{length};
+ghost use mathlib.Core.Bool.{cond};
+ghost use Prim.Native.Nat.{_+_, _<_, _≤_, min};
+ghost use lib.Dec.{eqb};
 ghost use Rattle.plan.specs.Range.{mostPorts};
 ghost use Rattle.multiplexer.specs.Choose.{chooseOf};
-ghost use Rattle.multiplexer.specs.Count.{countOf, endFrameOf};
-ghost use Rattle.multiplexer.specs.Candidate.{noDeadline, never, Due, Dues, orFlow};
+ghost use Rattle.multiplexer.specs.Count.{oneMore, countOf, endFrameOf};
+ghost use Rattle.multiplexer.specs.Candidate.{Soonest, orFlow, choiceOf};
+ghost use Rattle.multiplexer.specs.Serve.{serveOf};
 use plan::range::MOST_PORTS;
+
+mod valid;
 
 const MOST_COUNT: u16 = 65535;
 
-// Above every deadline, and small enough that its product with a rate fits 64 bits.
-const NO_DEADLINE: u64 = 281474976710656;
+// In place of a flow's number: none.
+const NO_FLOW: u16 = MOST_PORTS as u16;
 
-// Above every product of a rate and a deadline.
+// Above every deadline that counts of 16 and a frame of 32 bits give.
 const NEVER: u64 = 18446744073709551615;
 
 // What a slot is used for.
@@ -30,9 +34,16 @@ pub struct Multiplexer {
     pub served: [u16; MOST_PORTS],
 }
 
-// The choice among the flows looked at so far, and its deadline.
+// A port after a slot, and what it used the slot for.
+pub struct Served {
+    pub port: Multiplexer,
+    pub choice: Choice,
+}
+
+// The flow chosen among those looked at so far, or NO_FLOW, and its deadline. The number has a count's width, so that
+// `counted` compares it with many flows' numbers at a time.
 struct Candidate {
-    choice: Choice,
+    flow: u16,
     deadline: u64,
 }
 
@@ -43,73 +54,104 @@ fn flows(n: usize) -> usize
     if n < MOST_PORTS { n } else { MOST_PORTS }
 }
 
-// The flow's deadline is below d exactly if this number is at most d * rate. A flow that is not eligible has NEVER.
-fn due(rate: u16, served: u16, frame: u32, slot: u32) -> u64
-    ensures { λ r. ⌜ Due rate served frame slot r ⌝ }
+// A rate to divide by.
+fn at_least_one(a: u64) -> u64
+    ensures { λ r. ⌜ (0 < r) × (r ≤ a + 1) × (0 < a → r ≡ a) ⌝ }
+{
+    if a == 0 {
+        return 1;
+    }
+    a
+}
+
+// The flow's deadline, or NEVER where it is not eligible. The division comes before the tests, so that no jump depends on
+// which flows are eligible: a processor can't foresee that.
+fn soonest(rate: u16, served: u16, frame: u32, slot: u32) -> u64
+    ensures { λ r. ⌜ Soonest rate served frame slot r ⌝ }
 {
     let a = rate as u64;
     let done = (served as u64) * (frame as u64);
+    let d = at_least_one(a);
+    let deadline = (done + (frame as u64) + (d - 1)) / d;
     if (slot as u64) * a < done {
         return NEVER;
     }
     if rate == 0 {
         return NEVER;
     }
-    done + (frame as u64) + a
-}
-
-// The same of each flow below n. They are all made before the choice, so that no branch depends on which flows are
-// eligible: a processor can't foresee that.
-fn dues(
-    rates: &[u16],
-    served: [u16; MOST_PORTS],
-    n: usize,
-    frame: u32,
-    slot: u32,
-) -> [u64; MOST_PORTS]
-    requires { ⌜ (n ≤ mostPorts) × (n ≤ length (now rates)) ⌝ }
-    ensures { λ r. ⌜ Dues (now (rates .entry)) served frame slot n r ⌝ }
-{
-    let mut dues = [NEVER; MOST_PORTS];
-    for f in 0..n {
-        dues[f] = due(rates[f], served[f], frame, slot);
-    }
-    dues
+    deadline
 }
 
 impl Candidate {
-    // The choice with one flow more to choose from. A division is done only where the flow becomes the choice.
-    fn or_flow(self, flow: usize, rate: u16, due: u64) -> Candidate
-        requires { ⌜ (self .deadline ≤ noDeadline) × (0 < due) × (rate ≡ 0 → due ≡ never) ⌝ }
-        ensures { λ r. ⌜ (r ≡ orFlow self flow rate due) × (r .deadline ≤ noDeadline) ⌝ }
+    // The choice with one flow more to choose from; on a tie it does not change.
+    fn or_flow(self, flow: u16, deadline: u64) -> Candidate
+        ensures { λ r. ⌜ (r ≡ orFlow self flow deadline) × (r .deadline ≤ self .deadline) ⌝ }
     {
-        let a = rate as u64;
-        if self.deadline * a < due {
+        if self.deadline <= deadline {
             return self;
         }
-        Candidate {
-            choice: Choice::Flow(flow),
-            deadline: (due - 1) / a,
-        }
+        Candidate { flow, deadline }
     }
 }
 
+// The choice that a number stands for.
+fn choice_of(flow: u16) -> Choice
+    ensures { λ r. ⌜ r ≡ choiceOf flow ⌝ }
+{
+    if NO_FLOW <= flow {
+        return Choice::Idle;
+    }
+    Choice::Flow(flow as usize)
+}
+
+// The count of flow g after a slot that went to `flow`. A count of 65,535 stays.
+fn one_more(count: u16, g: u16, flow: u16) -> u16
+    ensures { λ r. ⌜ r ≡ cond (eqb g flow) (oneMore count) count ⌝ }
+{
+    if g != flow {
+        return count;
+    }
+    if MOST_COUNT <= count {
+        return count;
+    }
+    count + 1
+}
+
 impl Multiplexer {
+    // The number of the flow that `choose` chooses, or NO_FLOW.
+    fn best(self, rates: &[u16], frame: u32, slot: u32) -> u16
+        ensures { λ r. ⌜ choiceOf r ≡ chooseOf (now (rates .entry)) (self .served) frame slot ⌝ }
+    {
+        let served = self.served;
+        let n = flows(rates.len());
+        let mut best = Candidate {
+            flow: NO_FLOW,
+            deadline: NEVER,
+        };
+        for f in 0..n {
+            best = best.or_flow(f as u16, soonest(rates[f], served[f], frame, slot));
+        }
+        best.flow
+    }
+
     // The eligible flow with the smallest deadline, of equals the lowest. Only the first 16 rates count.
     pub fn choose(self, rates: &[u16], frame: u32, slot: u32) -> Choice
         ensures { λ r. ⌜ r ≡ chooseOf (now (rates .entry)) (self .served) frame slot ⌝ }
     {
+        choice_of(self.best(rates, frame, slot))
+    }
+
+    // One service more for the flow of this number. All counts are made anew: a processor stalls where one is written and
+    // then all are read at a time.
+    fn counted(self, flow: u16) -> Multiplexer
+        ensures { λ r. ⌜ r ≡ countOf self (choiceOf flow) ⌝ }
+    {
         let served = self.served;
-        let n = flows(rates.len());
-        let dues = dues(rates, served, n, frame, slot);
-        let mut best = Candidate {
-            choice: Choice::Idle,
-            deadline: NO_DEADLINE,
-        };
-        for f in 0..n {
-            best = best.or_flow(f, rates[f], dues[f]);
+        let mut after = [0u16; MOST_PORTS];
+        for g in 0..MOST_PORTS {
+            after[g] = one_more(served[g], g as u16, flow);
         }
-        best.choice
+        Multiplexer { served: after }
     }
 
     // One service more for the chosen flow. A count of 65,535 stays, and a number past 15 changes nothing.
@@ -122,13 +164,7 @@ impl Multiplexer {
         if MOST_PORTS <= f {
             return self;
         }
-        let mut served = self.served;
-        let k = served[f];
-        if MOST_COUNT <= k {
-            return self;
-        }
-        served[f] = k + 1;
-        Multiplexer { served }
+        self.counted(f as u16)
     }
 
     // The end of a frame of n flows: their counts return to 0, and those of other numbers stay.
@@ -140,5 +176,25 @@ impl Multiplexer {
             served[f] = 0;
         }
         Multiplexer { served }
+    }
+
+    // One slot of the port: it chooses, counts the service and, in the last slot of a frame, goes back to 0.
+    pub fn serve(self, rates: &[u16], frame: u32, slot: u32) -> Served
+        ensures { λ r. ⌜ r ≡ serveOf self (now (rates .entry)) frame slot ⌝ }
+    {
+        let flow = self.best(rates, frame, slot);
+        // counted before the choice is made of it, so that no jump depends on whether the port idles
+        let counted = self.counted(flow);
+        let choice = choice_of(flow);
+        if slot as u64 + 1 == frame as u64 {
+            return Served {
+                port: counted.end_frame(rates.len()),
+                choice,
+            };
+        }
+        Served {
+            port: counted,
+            choice,
+        }
     }
 }

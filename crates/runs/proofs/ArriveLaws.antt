@@ -42,12 +42,12 @@ module _ {s : Switch} {store : List ℕ} (ok : Sound s store) (p q cell : ℕ) (
   waiting = queueAt s k
 
   abbrev next : Switch
-  next = withQueues s (set (s .queues) k (longer waiting))
+  next = withQueues s (set (s .fabric .queues) k (longer waiting))
 
   abbrev filledStore : List ℕ
   filledStore = set store (cellPlace (s .depth) k waiting (waiting .count)) cell
 
-  k-small : k < length (s .queues)
+  k-small : k < length (s .fabric .queues)
   k-small = omega (arith, flow-below n p q (a .board) (a .head), square-small n (ok .plan .few-ports), ok .queues-size)
 
   place-small : cellPlace (s .depth) k waiting (waiting .count) < length store
@@ -61,10 +61,10 @@ module _ {s : Switch} {store : List ℕ} (ok : Sound s store) (p q cell : ℕ) (
 
   -- the queue of a flow, after the arrival
   queue-after : (i j : ℕ) → j < n → (flowOf n i j ≡ k → ⊥) → queueAt next (flowOf n i j) ≡ queueAt s (flowOf n i j)
-  queue-after i j hj ne = getD-set-other (s .queues) k (flowOf n i j) (longer waiting) noQueue ne
+  queue-after i j hj ne = getD-set-other (s .fabric .queues) k (flowOf n i j) (longer waiting) noQueue ne
 
   queue-same : queueAt next k ≡ longer waiting
-  queue-same = getD-set-same (s .queues) k (longer waiting) noQueue k-small
+  queue-same = getD-set-same (s .fabric .queues) k (longer waiting) noQueue k-small
 
   -- a fact of every queue, from the one that changed and those that did not
   each : (P : Queue → Type 0) → ((i j : ℕ) → i < n → j < n → P (queueAt s (flowOf n i j))) → P (longer waiting) → (i j : ℕ) → i < n → j < n → P (queueAt next (flowOf n i j))
@@ -84,7 +84,7 @@ module _ {s : Switch} {store : List ℕ} (ok : Sound s store) (p q cell : ℕ) (
         in-frame = ok .in-frame;
         running-size = ok .running-size;
         waiting-size = ok .waiting-size;
-        queues-size = length-set (s .queues) k (longer waiting) ∙ ok .queues-size;
+        queues-size = length-set (s .fabric .queues) k (longer waiting) ∙ ok .queues-size;
         points-size = ok .points-size;
         boards-size = ok .boards-size;
         heads-size = ok .heads-size;

@@ -7,11 +7,11 @@ use Rattle.refusal.specs.declared.Verdict.{Verdict}
 use Rattle.refusal.specs.declared.Verdict.the-variants.{Accepted, Refused}
 use Rattle.plan.specs.declared.Plan.{Plan}
 use Rattle.plan.proofs.LineLaws.{square-small}
-use Rattle.crossbar.specs.Rates.{overlaid}
+use Rattle.planpair.specs.Rates.{overlaid}
 use Rattle.crossbar.specs.Load.{withPlans, loadVerdict, loadOf, CanLoad}
 use Rattle.crossbar.proofs.LoadLaws.{can-load}
 use Rattle.crossbar.specs.declared.state.Switch.{Switch}
-use Rattle.crossbar.proofs.RateLaws.{overlaid-length, take-overlaid}
+use Rattle.planpair.proofs.RateLaws.{overlaid-length, take-overlaid}
 use Rattle.runs.specs.Event.{Event, stateAfter, storeAfter}
 use Rattle.runs.specs.Event.Call.{load}
 use Rattle.runs.specs.Run.{answered}

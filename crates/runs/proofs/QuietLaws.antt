@@ -4,7 +4,7 @@ use mathlib.Core.Path.{_≡_, refl}
 use mathlib.Core.List.{List, [], append-nil}
 use native.Mathlib.Omega.{arith}
 use Rattle.plan.specs.Range.{mostPorts}
-use Rattle.fabric.proofs.ListLaws.{getD-repeated}
+use Rattle.side.proofs.ListLaws.{getD-repeated}
 use Rattle.refusal.specs.declared.Refusal.{Refusal}
 use Rattle.refusal.specs.declared.Verdict.the-variants.{Refused}
 use Rattle.plan.specs.declared.Plan.{Plan}

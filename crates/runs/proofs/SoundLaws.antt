@@ -14,8 +14,10 @@ use Rattle.plan.specs.declared.Plan.{Plan}
 use Rattle.multiplexer.specs.Window.{columnOf}
 use Rattle.multiplexer.proofs.PacedLaws.{Paced, paced-early, paced-late, paced-within}
 use Rattle.multiplexer.proofs.PortLaws.{row-length, row-rate, column-length, column-rate}
-use Rattle.fabric.specs.Flow.{mostDepth, noMultiplexer}
-use Rattle.crossbar.specs.State.{hasWaiting, queueAt, pointAt, planRates, rateAt, boardCount, headCount}
+use Rattle.side.specs.Choices.{noMultiplexer}
+use Rattle.fabric.specs.Flow.{mostDepth}
+use Rattle.planpair.specs.Rates.{planRates, rateAt}
+use Rattle.crossbar.specs.State.{hasWaiting, queueAt, pointAt, boardCount, headCount}
 use Rattle.crossbar.specs.declared.state.Switch.{Switch}
 use Rattle.runs.proofs.ShareLaws.{Near}
 
@@ -34,10 +36,10 @@ pub record Sound (s : Switch) (store : List ℕ) : Type 0 where
   -- the arrays have their lengths
   pub running-size : length (s .running .rates) ≡ mostFlows
   pub waiting-size : length (s .waiting .rates) ≡ mostFlows
-  pub queues-size : length (s .queues) ≡ mostFlows
-  pub points-size : length (s .crosspoints) ≡ mostFlows
-  pub boards-size : length (s .boards) ≡ mostPorts
-  pub heads-size : length (s .heads) ≡ mostPorts
+  pub queues-size : length (s .fabric .queues) ≡ mostFlows
+  pub points-size : length (s .fabric .crosspoints) ≡ mostFlows
+  pub boards-size : length (s .fabric .boards) ≡ mostPorts
+  pub heads-size : length (s .fabric .heads) ≡ mostPorts
   pub store-size : length store ≡ s .running .ports * s .running .ports * s .depth
   -- each flow's queue and crosspoint
   pub place : (i j : ℕ) → i < s .running .ports → j < s .running .ports → queueAt s (flowOf (s .running .ports) i j) .place < s .depth
@@ -45,9 +47,9 @@ pub record Sound (s : Switch) (store : List ℕ) : Type 0 where
   pub two-places : (i j : ℕ) → i < s .running .ports → j < s .running .ports → length (pointAt s (flowOf (s .running .ports) i j) .cells) ≡ 2
   -- each port keeps its windows
   pub boards : (i : ℕ) → i < s .running .ports
-      → Paced (rowOf (planRates (s .running)) (s .running .ports) i) (s .running .frame) (s .slot) (getD (s .boards) i noMultiplexer .served)
+      → Paced (rowOf (planRates (s .running)) (s .running .ports) i) (s .running .frame) (s .slot) (getD (s .fabric .boards) i noMultiplexer .served)
   pub heads : (j : ℕ) → j < s .running .ports
-      → Paced (columnOf (planRates (s .running)) (s .running .ports) j) (s .running .frame) (s .slot) (getD (s .heads) j noMultiplexer .served)
+      → Paced (columnOf (planRates (s .running)) (s .running .ports) j) (s .running .frame) (s .slot) (getD (s .fabric .heads) j noMultiplexer .served)
   -- no more cells in a crosspoint than its board is ahead of its head, and one
   pub balanced : (i j : ℕ) → i < s .running .ports → j < s .running .ports
       → pointAt s (flowOf (s .running .ports) i j) .count + headCount s i j ≤ boardCount s i j + 1

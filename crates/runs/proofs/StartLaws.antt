@@ -11,12 +11,13 @@ use Rattle.plan.proofs.LineLaws.{flow-below, square-small}
 use Rattle.multiplexer.specs.Window.{FrameStart}
 use Rattle.multiplexer.proofs.PacedLaws.{paced-start}
 use Rattle.multiplexer.proofs.PortLaws.{row-length, row-fits, column-length, column-fits}
-use Rattle.fabric.specs.Flow.{noQueue, noPoint, noMultiplexer}
+use Rattle.side.specs.Choices.{noMultiplexer}
+use Rattle.fabric.specs.Flow.{noQueue, noPoint}
 use Rattle.crossbar.specs.State.{queueAt, pointAt, boardCount, headCount}
 use Rattle.crossbar.specs.Start.{emptyQueue, emptyPoint, restedPort, freshWith, planOf, CanStart}
 use Rattle.fabric.specs.declared.flow.Crosspoint.{Crosspoint}
 use Rattle.crossbar.specs.declared.state.Switch.{Switch}
-use Rattle.crossbar.proofs.RateLaws.{overlaid-length}
+use Rattle.planpair.proofs.RateLaws.{overlaid-length}
 use Rattle.crossbar.proofs.StartLaws.{started-rates}
 use Rattle.runs.proofs.SoundLaws.{Sound}
 

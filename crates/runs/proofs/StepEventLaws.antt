@@ -15,7 +15,8 @@ use Rattle.plan.specs.declared.Plan.{Plan}
 use Rattle.crossbar.specs.State.{storeFits}
 use Rattle.crossbar.specs.Valid.{validOf}
 use Rattle.crossbar.specs.Load.{withPlans}
-use Rattle.crossbar.specs.Takeover.{takesOver, takeoverOf, replaced, cleared}
+use Rattle.planpair.specs.Takeover.{replaced, cleared}
+use Rattle.crossbar.specs.Takeover.{takesOver, takeoverOf}
 use Rattle.crossbar.specs.Step.{slotMoves, slotSends, afterSlot, stepVerdict, stepOf}
 use Rattle.crossbar.specs.declared.state.Switch.{Switch}
 use Rattle.crossbar.proofs.TakeoverLaws.{taken, not-taken}

@@ -23,22 +23,23 @@ use Rattle.multiplexer.specs.declared.Multiplexer.{Multiplexer}
 use Rattle.multiplexer.proofs.CountLaws.{services-le-one, served-flow, flow-served, cleared-starts, cleared-zero}
 use Rattle.multiplexer.proofs.PacedLaws.{Paced, paced-start, paced-step, paced-count, paced-end, paced-early, paced-late, paced-full, paced-fits, chosen-eligible}
 use Rattle.multiplexer.proofs.PortLaws.{row-length, row-rate, column-length, column-rate}
-use Rattle.fabric.specs.Flow.{noQueue, noPoint, noMultiplexer}
-use Rattle.crossbar.specs.State.{queueAt, pointAt, planRates, rateAt, boardCount, headCount}
+use Rattle.fabric.specs.Flow.{noQueue, noPoint}
+use Rattle.planpair.specs.Rates.{planRates, rateAt}
+use Rattle.crossbar.specs.State.{queueAt, pointAt, boardCount, headCount}
 use Rattle.fabric.specs.Answer.{cellsWith, answerOf}
-use Rattle.fabric.specs.Choices.{choiceAt, NamesBelow, CanChoose}
+use Rattle.side.specs.Choices.{noMultiplexer, choiceAt, NamesBelow, CanChoose}
 use Rattle.crossbar.specs.Step.{boardChoices, headChoices}
-use Rattle.fabric.specs.Counts.{portAfter}
+use Rattle.multiplexer.specs.Serve.{portAfter}
 use Rattle.crossbar.specs.Step.{slotMoves, slotSends, hasRoom, endsFrame, afterSlot}
-use Rattle.fabric.specs.declared.moves.Moves.{Moves}
-use Rattle.fabric.specs.declared.sends.Sends.{Sends}
+use Rattle.fabric.specs.Moves.{Moves}
+use Rattle.fabric.specs.Sends.{Sends}
 use Rattle.fabric.specs.declared.flow.Answer.{Answer}
 use Rattle.fabric.specs.declared.flow.Crosspoint.{Crosspoint}
 use Rattle.crossbar.specs.declared.state.Switch.{Switch}
-use Rattle.fabric.proofs.ChoiceLaws.{choices-at}
+use Rattle.side.proofs.ChoiceLaws.{choices-at}
 use Rattle.fabric.proofs.MoveLaws.{room-enough, moves-length, moves-served, moves-passed, moves-answer-idle}
 use Rattle.fabric.proofs.SendLaws.{sends-length, sends-served, sends-passed, sends-answer-idle}
-use Rattle.fabric.proofs.CountLaws.{counts-at, counts-length}
+use Rattle.side.proofs.CountLaws.{counts-at, counts-length}
 use Rattle.runs.proofs.ShareLaws.{Near}
 use Rattle.runs.proofs.SlotLaws.{Next, FlowSlot, slot-balanced}
 use Rattle.runs.proofs.SlotLaws.Next.{goes-on, ends}
@@ -65,18 +66,18 @@ module _ {u : Switch} {store : List ℕ} (ok : Sound u store) where
   column j = columnOf (planRates (u .running)) n j
 
   abbrev boardKs : ℕ → List ℕ
-  boardKs i = getD (u .boards) i noMultiplexer .served
+  boardKs i = getD (u .fabric .boards) i noMultiplexer .served
 
   abbrev headKs : ℕ → List ℕ
-  headKs j = getD (u .heads) j noMultiplexer .served
+  headKs j = getD (u .fabric .heads) j noMultiplexer .served
 
   board-chooses : (i : ℕ) → i < n → choiceAt (boardChoices u) i ≡ chooseOf (row i) (boardKs i) T (u .slot)
   unfolding boardChoices
-  board-chooses i hi = choices-at _ (u .boards) T (u .slot) n i hi (ok .plan .few-ports)
+  board-chooses i hi = choices-at _ (u .fabric .boards) T (u .slot) n i hi (ok .plan .few-ports)
 
   head-chooses : (j : ℕ) → j < n → choiceAt (headChoices u) j ≡ chooseOf (column j) (headKs j) T (u .slot)
   unfolding headChoices
-  head-chooses j hj = choices-at _ (u .heads) T (u .slot) n j hj (ok .plan .few-ports)
+  head-chooses j hj = choices-at _ (u .fabric .heads) T (u .slot) n j hj (ok .plan .few-ports)
 
   -- each choice names a port of the switch
   board-names : NamesBelow n (boardChoices u)
@@ -113,7 +114,7 @@ module _ {u : Switch} {store : List ℕ} (ok : Sound u store) where
       omega (arith, lt-of-mul-lt-mul-right T {m = boardCount u i j} {n = headCount u i j + 1} close, ok .balanced i j hi hj)
 
   pub has-room : hasRoom u ≡ true
-  has-room = room-enough n (boardChoices u) (u .queues) (u .crosspoints) (λ i j hi e. room-there i j hi (board-names i j hi e) e)
+  has-room = room-enough n (boardChoices u) (u .fabric .queues) (u .fabric .crosspoints) (λ i j hi e. room-there i j hi (board-names i j hi e) e)
 
   -- what a flow's queue and crosspoint are after the moves, and its crosspoint after the sends
   abbrev moves : Moves
@@ -123,7 +124,7 @@ module _ {u : Switch} {store : List ℕ} (ok : Sound u store) where
   sends = slotSends u store
 
   points-full : length (moves .crosspoints) ≡ mostFlows
-  points-full = moves-length n (u .depth) store (boardChoices u) (u .queues) (u .crosspoints) n .points-kept ∙ ok .points-size
+  points-full = moves-length n (u .depth) store (boardChoices u) (u .fabric .queues) (u .fabric .crosspoints) n .points-kept ∙ ok .points-size
 
   module _ (i j : ℕ) (hi : i < n) (hj : j < n) where
     abbrev k : ℕ
@@ -156,25 +157,25 @@ module _ {u : Switch} {store : List ℕ} (ok : Sound u store) where
       where
         passed : (choiceAt (boardChoices u) i ≡ Flow j → ⊥) → (services : ℕ) → services ≡ 0 → cellsWith j boardAnswer ≡ [] → empties j boardAnswer ≡ 0 → Board services
         passed ne services e none dry =
-            let is = moves-passed n (u .depth) store (boardChoices u) (u .queues) (u .crosspoints) board-names i j hj ne in
+            let is = moves-passed n (u .depth) store (boardChoices u) (u .fabric .queues) (u .fabric .crosspoints) board-names i j hj ne in
             rw (e, is .queue, is .point, none, dry) (board-idle store (u .depth) k (queueAt u k) (pointAt u k) (ok .place i j hi hj) (ok .two-places i j hi hj))
 
         serves : choiceAt (boardChoices u) i ≡ Flow j → Board 1
         serves c =
-            let m = moves-served n (u .depth) store (boardChoices u) (u .queues) (u .crosspoints) boards-can (ok .queues-size) (ok .points-size) i j hi c in
+            let m = moves-served n (u .depth) store (boardChoices u) (u .fabric .queues) (u .fabric .crosspoints) boards-can (ok .queues-size) (ok .points-size) i j hi c in
             rw (m .flow .queue, m .flow .point, m .answer)
             (board-serves store (u .depth) k j (queueAt u k) (pointAt u k) (ok .some-depth) (ok .place i j hi hj) (ok .two-places i j hi hj) (λ _. room-there i j hi hj c))
 
         go : (c : Choice) → choiceAt (boardChoices u) i ≡ c → Board b
         go Idle e =
-            let a = moves-answer-idle n (u .depth) store (boardChoices u) (u .queues) (u .crosspoints) i hi e in
+            let a = moves-answer-idle n (u .depth) store (boardChoices u) (u .fabric .queues) (u .fabric .crosspoints) i hi e in
             passed (λ c. idle-not-flow j (sym e ∙ c)) b (ap (λ (c : Choice). servicesOf c j) e) (ap (cellsWith j) a) (ap (empties j) a)
         go (Flow g) e = at (ℕ-discrete g j)
           where
             at : Dec (g ≡ j) → Board b
             at (yes same) = let c = e ∙ ap Flow same in subst Board (sym (ap (λ (c : Choice). servicesOf c j) c ∙ flow-served j)) (serves c)
             at (no ne) =
-                let m = moves-served n (u .depth) store (boardChoices u) (u .queues) (u .crosspoints) boards-can (ok .queues-size) (ok .points-size) i g hi e in
+                let m = moves-served n (u .depth) store (boardChoices u) (u .fabric .queues) (u .fabric .crosspoints) boards-can (ok .queues-size) (ok .points-size) i g hi e in
                 let silent = other-move (u .depth) g j _ (queueAt u (flowOf n i g)) (pointAt u (flowOf n i g)) ne in
                 passed (λ c. ne (flow-is g j (sym e ∙ c))) b (ap (λ (c : Choice). servicesOf c j) e ∙ rw (ne-eqb g j ne) refl)
                 (ap (cellsWith j) (m .answer) ∙ silent .0) (ap (empties j) (m .answer) ∙ silent .1)
@@ -265,23 +266,23 @@ module _ {u : Switch} {store : List ℕ} (ok : Sound u store) where
       go true = paced-start (paced-fits p) (rw l (cleared-starts _ n (paced-full next) (ok .plan .few-ports)))
       go false = rw add-one next
 
-  board-next : (i : ℕ) → i < n → getD (afterSlot u store .boards) i noMultiplexer .served ≡ portNext (endsFrame u) (countsAfter (boardKs i) (chooseOf (row i) (boardKs i) T (u .slot)))
+  board-next : (i : ℕ) → i < n → getD (afterSlot u store .fabric .boards) i noMultiplexer .served ≡ portNext (endsFrame u) (countsAfter (boardKs i) (chooseOf (row i) (boardKs i) T (u .slot)))
   unfolding afterSlot
   board-next i hi =
-      ap (λ (m : Multiplexer). m .served) (counts-at n (endsFrame u) (boardChoices u) (u .boards) n i hi (omega (arith, ok .plan .few-ports, ok .boards-size)))
+      ap (λ (m : Multiplexer). m .served) (counts-at n (endsFrame u) (boardChoices u) (u .fabric .boards) n i hi (omega (arith, ok .plan .few-ports, ok .boards-size)))
       ∙ rw (board-chooses i hi) (port-served (endsFrame u) _ _)
 
-  head-next : (j : ℕ) → j < n → getD (afterSlot u store .heads) j noMultiplexer .served ≡ portNext (endsFrame u) (countsAfter (headKs j) (chooseOf (column j) (headKs j) T (u .slot)))
+  head-next : (j : ℕ) → j < n → getD (afterSlot u store .fabric .heads) j noMultiplexer .served ≡ portNext (endsFrame u) (countsAfter (headKs j) (chooseOf (column j) (headKs j) T (u .slot)))
   unfolding afterSlot
   head-next j hj =
-      ap (λ (m : Multiplexer). m .served) (counts-at n (endsFrame u) (headChoices u) (u .heads) n j hj (omega (arith, ok .plan .few-ports, ok .heads-size)))
+      ap (λ (m : Multiplexer). m .served) (counts-at n (endsFrame u) (headChoices u) (u .fabric .heads) n j hj (omega (arith, ok .plan .few-ports, ok .heads-size)))
       ∙ rw (head-chooses j hj) (port-served (endsFrame u) _ _)
 
   -- each port after the slot
-  boards-paced : (i : ℕ) → i < n → Paced (row i) T slotNext (getD (afterSlot u store .boards) i noMultiplexer .served)
+  boards-paced : (i : ℕ) → i < n → Paced (row i) T slotNext (getD (afterSlot u store .fabric .boards) i noMultiplexer .served)
   boards-paced i hi = rw (board-next i hi) (port-paced (row i) (boardKs i) (row-length (planRates (u .running)) n i (ok .plan .square) hi) (ok .boards i hi))
 
-  heads-paced : (j : ℕ) → j < n → Paced (column j) T slotNext (getD (afterSlot u store .heads) j noMultiplexer .served)
+  heads-paced : (j : ℕ) → j < n → Paced (column j) T slotNext (getD (afterSlot u store .fabric .heads) j noMultiplexer .served)
   heads-paced j hj = rw (head-next j hj) (port-paced (column j) (headKs j) (column-length (planRates (u .running)) n j) (ok .heads j hj))
 
   -- at a frame's end a port has given each flow its rate
@@ -370,10 +371,10 @@ module _ {u : Switch} {store : List ℕ} (ok : Sound u store) where
         in-frame = slot-within;
         running-size = ok .running-size;
         waiting-size = ok .waiting-size;
-        queues-size = moves-length n (u .depth) store (boardChoices u) (u .queues) (u .crosspoints) n .queues-kept ∙ ok .queues-size;
+        queues-size = moves-length n (u .depth) store (boardChoices u) (u .fabric .queues) (u .fabric .crosspoints) n .queues-kept ∙ ok .queues-size;
         points-size = sends-length n (headChoices u) (moves .crosspoints) n .points-kept ∙ points-full;
-        boards-size = counts-length n (endsFrame u) (boardChoices u) (u .boards) n ∙ ok .boards-size;
-        heads-size = counts-length n (endsFrame u) (headChoices u) (u .heads) n ∙ ok .heads-size;
+        boards-size = counts-length n (endsFrame u) (boardChoices u) (u .fabric .boards) n ∙ ok .boards-size;
+        heads-size = counts-length n (endsFrame u) (headChoices u) (u .fabric .heads) n ∙ ok .heads-size;
         store-size = ok .store-size;
         place = λ i j hi hj. board-there i j hi hj .place;
         queued = λ i j hi hj. omega (arith, board-there i j hi hj .shorter, ok .queued i j hi hj);

@@ -15,13 +15,16 @@ use Rattle.plan.proofs.BelowLaws.{and-true}
 use Rattle.multiplexer.specs.Window.{columnOf, FrameStart}
 use Rattle.multiplexer.proofs.PacedLaws.{Paced, paced-start, paced-early, paced-full}
 use Rattle.multiplexer.proofs.PortLaws.{row-length, row-fits, column-length, column-fits}
-use Rattle.fabric.specs.Flow.{noMultiplexer}
-use Rattle.crossbar.specs.State.{hasWaiting, planRates}
+use Rattle.side.specs.Choices.{noMultiplexer}
+use Rattle.planpair.specs.Rates.{planRates}
+use Rattle.crossbar.specs.State.{hasWaiting}
 use Rattle.crossbar.specs.Load.{withPlans}
-use Rattle.crossbar.specs.Takeover.{replaced, cleared, takesOver, takeoverOf}
+use Rattle.planpair.specs.Takeover.{replaced, cleared}
+use Rattle.crossbar.specs.Takeover.{takesOver, takeoverOf}
 use Rattle.crossbar.specs.declared.state.Switch.{Switch}
-use Rattle.crossbar.proofs.RateLaws.{overlaid-length}
-use Rattle.crossbar.proofs.TakeoverLaws.{taken, not-taken, taken-rates}
+use Rattle.planpair.proofs.RateLaws.{overlaid-length}
+use Rattle.planpair.proofs.TakeoverLaws.{taken-rates}
+use Rattle.crossbar.proofs.TakeoverLaws.{taken, not-taken}
 use Rattle.runs.proofs.SoundLaws.{Sound, PlanIn}
 
 -- in slot 0 a paced port begins its frame
@@ -56,16 +59,16 @@ module _ {s : Switch} {store : List ℕ} (ok : Sound s store) (zero-slot : s .sl
       rw rates-are
       (subst₂ (λ (m t : ℕ). IsPlan m t (planRates (s .waiting))) (sym (here .ports)) (sym (here .frame)) (here .plan))
 
-  board-starts : (i : ℕ) → i < s .waiting .ports → FrameStart (getD (s .boards) i noMultiplexer .served) (s .waiting .ports)
+  board-starts : (i : ℕ) → i < s .waiting .ports → FrameStart (getD (s .fabric .boards) i noMultiplexer .served) (s .waiting .ports)
   board-starts i hi =
       let below : i < n = omega (arith, here .ports) in
-      begins (subst (λ (t : ℕ). Paced (rowOf (planRates (s .running)) n i) (s .running .frame) t (getD (s .boards) i noMultiplexer .served)) zero-slot (ok .boards i below))
+      begins (subst (λ (t : ℕ). Paced (rowOf (planRates (s .running)) n i) (s .running .frame) t (getD (s .fabric .boards) i noMultiplexer .served)) zero-slot (ok .boards i below))
       _ (here .ports ∙ sym (row-length (planRates (s .running)) n i (ok .plan .square) below))
 
-  head-starts : (j : ℕ) → j < s .waiting .ports → FrameStart (getD (s .heads) j noMultiplexer .served) (s .waiting .ports)
+  head-starts : (j : ℕ) → j < s .waiting .ports → FrameStart (getD (s .fabric .heads) j noMultiplexer .served) (s .waiting .ports)
   head-starts j hj =
       let below : j < n = omega (arith, here .ports) in
-      begins (subst (λ (t : ℕ). Paced (columnOf (planRates (s .running)) n j) (s .running .frame) t (getD (s .heads) j noMultiplexer .served)) zero-slot (ok .heads j below))
+      begins (subst (λ (t : ℕ). Paced (columnOf (planRates (s .running)) n j) (s .running .frame) t (getD (s .fabric .heads) j noMultiplexer .served)) zero-slot (ok .heads j below))
       _ (here .ports ∙ sym (column-length (planRates (s .running)) n j))
 
   sound-taken : Sound next store
@@ -87,9 +90,9 @@ module _ {s : Switch} {store : List ℕ} (ok : Sound s store) (zero-slot : s .sl
         queued = rw (here .ports) (ok .queued);
         two-places = rw (here .ports) (ok .two-places);
         boards = λ i hi. rw zero-slot (paced-start (row-fits _ _ (planRates ruling) own-plan i hi)
-            (subst (FrameStart (getD (s .boards) i noMultiplexer .served)) (sym (row-length (planRates ruling) (s .waiting .ports) i (own-plan .square) hi)) (board-starts i hi)));
+            (subst (FrameStart (getD (s .fabric .boards) i noMultiplexer .served)) (sym (row-length (planRates ruling) (s .waiting .ports) i (own-plan .square) hi)) (board-starts i hi)));
         heads = λ j hj. rw zero-slot (paced-start (column-fits _ _ (planRates ruling) own-plan j hj)
-            (subst (FrameStart (getD (s .heads) j noMultiplexer .served)) (sym (column-length (planRates ruling) (s .waiting .ports) j)) (head-starts j hj)));
+            (subst (FrameStart (getD (s .fabric .heads) j noMultiplexer .served)) (sym (column-length (planRates ruling) (s .waiting .ports) j)) (head-starts j hj)));
         balanced = rw (here .ports) (ok .balanced);
       }
 
@@ -99,10 +102,10 @@ pub record OtherPlan (s u : Switch) : Type 0 where
   pub frame : u .running .frame ≡ s .running .frame
   pub depth : u .depth ≡ s .depth
   pub slot : u .slot ≡ s .slot
-  pub queues : u .queues ≡ s .queues
-  pub points : u .crosspoints ≡ s .crosspoints
-  pub boards : u .boards ≡ s .boards
-  pub heads : u .heads ≡ s .heads
+  pub queues : u .fabric .queues ≡ s .fabric .queues
+  pub points : u .fabric .crosspoints ≡ s .fabric .crosspoints
+  pub boards : u .fabric .boards ≡ s .fabric .boards
+  pub heads : u .fabric .heads ≡ s .fabric .heads
 
 module _ {s : Switch} {store : List ℕ} (ok : Sound s store) where
   same : OtherPlan s s

@@ -7,7 +7,8 @@ use native.Mathlib.Nat.{lt-of-mul-lt-mul-right, div-add-mod', div-lt-iff-lt-mul,
 use native.Mathlib.Omega.{arith}
 use Rattle.plan.specs.Lines.{flowOf}
 use Rattle.plan.specs.Accept.{IsPlan}
-use Rattle.crossbar.specs.State.{queueAt, pointAt, planRates}
+use Rattle.planpair.specs.Rates.{planRates}
+use Rattle.crossbar.specs.State.{queueAt, pointAt}
 use Rattle.crossbar.specs.Valid.{validOf}
 use Rattle.crossbar.specs.declared.state.Switch.{Switch}
 use Rattle.crossbar.proofs.ValidLaws.{is-valid}

@@ -6,7 +6,7 @@ use mathlib.Core.List.{List, [], _∷_, _++_}
 use lib.Dec.{eqb}
 use Rattle.refusal.specs.Chain.{ifAccepted}
 use Rattle.refusal.specs.declared.Verdict.the-variants.{Accepted}
-use Rattle.crossbar.specs.State.{rateAt}
+use Rattle.planpair.specs.Rates.{rateAt}
 use Rattle.fabric.specs.Answer.{cellsWith, emptyWith, answerOf}
 use Rattle.runs.specs.Event.{Event}
 use Rattle.runs.specs.Event.Event.{stepped, arrived, loaded}

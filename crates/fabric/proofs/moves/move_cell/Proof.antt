@@ -1,6 +1,5 @@
 use borrow.Author.Needs.{needs}
-use Prim.Native.Nat.{_+_, _<_}
-use native.Mathlib.Nat.{mod-lt}
+use Prim.Native.Nat.{_<_}
 use native.Mathlib.Omega.{arith}
 use borrow.Author.Tests.{eq-eqb, ne-eqb}
 use Rattle.fabric.specs.Flow.{crosspointDepth}
@@ -10,56 +9,52 @@ use Rattle.fabric.proofs.moves.move_cell.Statement.{statement}
 use Rattle.fabric.proofs.moves.move_cell.Tie as tie
 
 -- where the queue has a cell
-room : (c : tie.Else1) → c .before .before .args .point .count < crosspointDepth
-room c = room-left (c .before .before .args .queue) (c .before .before .args .point) (c .before .before .pre .room) (c .if1 .left)
+room : (c : tie.After-struct-known2) → c .before .before .before .args .point .count < crosspointDepth
+room c =
+    let s = c .before .before .before in
+    room-left (s .args .queue) (s .args .point) (s .pre .room) (c .before .if1 .left)
 
 returns : tie.Need-returns
 unfolding moveOf
 returns c = simp (eq-eqb _ _ (c .if1 .taken))
 
-cast-next : tie.Need-cast-next
-cast-next c = search needs
+cast-ring-place : tie.Need-cast-ring-place
+cast-ring-place c = search needs
 
-add-next : tie.Need-add-next
-add-next c = search needs
+add-ring-place : tie.Need-add-ring-place
+add-ring-place c = search needs
 
-rem-next : tie.Need-rem-next
-rem-next c = search needs
+ring-place-requires : tie.Need-ring-place-requires
+ring-place-requires c κs = search needs
 
-cast-at : tie.Need-cast-at
-cast-at c = search needs
+with-cell-requires : tie.Need-with-cell-requires
+with-cell-requires c κs = room (c .before .before)
 
-mul-cells : tie.Need-mul-cells
-mul-cells c = search needs
+cast-t14 : tie.Need-cast-t14
+cast-t14 c = search needs
 
-array-write-cells : tie.Need-array-write-cells
-array-write-cells c = room (c .before .before .before)
+sub-t15 : tie.Need-sub-t15
+sub-t15 c = search needs
 
-cast-t16 : tie.Need-cast-t16
-cast-t16 c = let s = c .before .before .before .before .before in omega (arith, mod-lt (s .args .queue .place + 1) (s .pre .some-depth))
-
-sub-t17 : tie.Need-sub-t17
-sub-t17 c = search needs
-
-add-t20 : tie.Need-add-t20
-add-t20 c = omega (arith, room (c .before .before .before .before .before))
+add-t17 : tie.Need-add-t17
+add-t17 c = omega (arith, room (c .before .before .before .before .before))
 
 returns-2 : tie.Need-returns-2
 unfolding moveOf
-returns-2 c = simp (ne-eqb _ _ (c .before .before .before .before .before .if1 .left))
+returns-2 c =
+    let k = c .before .before .before .before in
+    rw (k .ring-place .ensures .0, c .before .before .with-cell .ensures) (simp (ne-eqb _ _ (k .before .before .if1 .left)))
 
 pub move-cell-spec : {M : Type 1} → statement M
 move-cell-spec =
     tie.close
     (tie.spec
     returns
-    cast-next
-    add-next
-    rem-next
-    cast-at
-    mul-cells
-    array-write-cells
-    cast-t16
-    sub-t17
-    add-t20
+    cast-ring-place
+    add-ring-place
+    ring-place-requires
+    with-cell-requires
+    cast-t14
+    sub-t15
+    add-t17
     returns-2)

@@ -7,7 +7,7 @@ use lib.ListN.{take, replicate}
 use lib.Seq.{length-take-le}
 use Rattle.plan.specs.Range.{mostFlows}
 use Rattle.plan.proofs.LineLaws.{square-small}
-use Rattle.crossbar.proofs.OwnedLaws.{rates-cover, rates-square}
+use Rattle.planpair.proofs.OwnedLaws.{rates-cover, rates-square}
 use Rattle.frame.specs.Printout.{headerOf, refusalLineOf, slotLinesOf, framePrintoutOf}
 use Rattle.frame.proofs.TextLaws.{room-as, room-first, room-next, written-as, written-on}
 use Rattle.frame.proofs.PrintoutLaws.{Decided, by-start, zeros-taken}

@@ -4,8 +4,8 @@ use mathlib.Core.Path.{_≡_, refl, ap, _∙_}
 use native.Mathlib.Omega.{arith}
 use denote.Ref.{now}
 use lib.ListN.{length, length-set}
-use Rattle.crossbar.specs.Rates.{overlaid}
-use Rattle.crossbar.proofs.RateLaws.{overlaid-none, overlaid-next}
+use Rattle.planpair.specs.Rates.{overlaid}
+use Rattle.planpair.proofs.RateLaws.{overlaid-none, overlaid-next}
 use Rattle.gambyre.specs.Written.{numbered}
 use Rattle.gambyre.proofs.plans.copy_row.Statement.{statement}
 use Rattle.gambyre.proofs.plans.copy_row.Tie as tie

@@ -17,15 +17,15 @@ use Rattle.crossbar.proofs.state.Switch.arrive_verdict.Tie as tie
 
 -- What each test has shown once it is passed.
 
-valid-pass : (c : tie.Else1) → validOf (c .before .before .args .t1) ≡ true
+valid-pass : (c : tie.Else1) → validOf (c .before .before .args .self) ≡ true
 valid-pass c = passed (c .before .is-valid .ensures) (c .if1 .left)
 
-store-pass : (c : tie.Else2) → let a = c .before .before .before .before .args in storeFits (a .t1 .running .ports) (a .t1 .depth) (a .len) ≡ true
+store-pass : (c : tie.Else2) → let a = c .before .before .before .before .args in storeFits (a .self .running .ports) (a .self .depth) (a .len) ≡ true
 store-pass c = passed (c .before .store-fits .ensures) (c .if2 .left)
 
-flow-small : (c : tie.Else4) → let a = c .before .before .before .before .before .before .args in flowOf (a .t1 .running .ports) (a .i) (a .j) < mostFlows
+flow-small : (c : tie.Else4) → let a = c .before .before .before .before .before .before .args in flowOf (a .self .running .ports) (a .i) (a .j) < mostFlows
 flow-small c =
-    let n = c .before .before .before .before .before .before .args .t1 .running .ports in
+    let n = c .before .before .before .before .before .before .args .self .running .ports in
     omega (
       arith,
       flow-below n _ _ (c .before .if3 .left) (c .if4 .left),
@@ -57,16 +57,16 @@ returns-4 c =
     simp (valid-pass (c2 .before .before), store-pass c2, lt-ltb _ _ (c .before .if3 .left), le-ltb _ _ (c .if4 .taken))
 
 mul-queue : tie.Need-mul-queue
-mul-queue c = omega (arith, flow-small c)
+mul-queue c = omega (arith, flow-small (c .before))
 
 add-queue : tie.Need-add-queue
-add-queue c = omega (arith, flow-small c)
+add-queue c = omega (arith, flow-small (c .before))
 
 mul-queue-2 : tie.Need-mul-queue-2
-mul-queue-2 c = omega (arith, flow-small c)
+mul-queue-2 c = omega (arith, flow-small (c .before))
 
 element-copy-out-queue : tie.Need-element-copy-out-queue
-element-copy-out-queue c = flow-small c
+element-copy-out-queue c = flow-small (c .before)
 
 cast-if5 : tie.Need-cast-if5
 cast-if5 c = search needs
@@ -74,7 +74,7 @@ cast-if5 c = search needs
 returns-5 : tie.Need-returns-5
 unfolding arriveVerdict
 returns-5 c =
-    let c4 = c .before .before .before in
+    let c4 = c .before .before .before .before in
     let c2 = c4 .before .before in
     simp (
       valid-pass (c2 .before .before),
@@ -87,7 +87,7 @@ returns-5 c =
 returns-6 : tie.Need-returns-6
 unfolding arriveVerdict
 returns-6 c =
-    let c4 = c .before .before .before in
+    let c4 = c .before .before .before .before in
     let c2 = c4 .before .before in
     simp (
       valid-pass (c2 .before .before),

@@ -1,0 +1,4 @@
+pub mod RateLaws
+pub mod OwnedLaws
+pub mod ValidLaws
+pub mod TakeoverLaws

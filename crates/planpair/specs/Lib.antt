@@ -1,0 +1,3 @@
+pub mod Rates
+pub mod Valid
+pub mod Takeover

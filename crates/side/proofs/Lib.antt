@@ -1,0 +1,10 @@
+pub mod ListLaws
+pub mod TouchLaws
+pub mod LoopLaws
+pub mod PlaceLaws
+pub mod TurnLaws
+pub mod CountLaws
+pub mod NameLaws
+pub mod ChoiceLaws
+pub mod ColumnLaws
+pub mod ValidLaws

@@ -1,0 +1,5 @@
+pub mod Choices
+pub mod Columns
+pub mod Counts
+pub mod Places
+pub mod Valid
