@@ -15,6 +15,7 @@ use Rattle.refusal.specs.declared.Refusal.{Refusal}
 use Rattle.refusal.specs.declared.Refusal.the-variants.{PortsOutOfRange, FrameOutOfRange, NotPlanFile, FileLength}
 use Rattle.refusal.specs.declared.Verdict.{Verdict}
 use Rattle.refusal.specs.declared.Verdict.the-variants.{Refused}
+use Rattle.refusal.proofs.ChainLaws.{refuse-ext}
 use Rattle.plan.specs.declared.Plan.{Plan}
 use Rattle.plan.specs.NoPlan.{noPlan}
 use Rattle.plan.specs.Range.{portsInRange, frameInRange}
@@ -24,7 +25,6 @@ use Rattle.plan.proofs.RangeLaws.{ports-range}
 use Rattle.planfile.specs.declared.Reading.{Reading}
 use Rattle.planfile.specs.Layout.{byteAt, isMarked, versionIn, portsIn, frameIn, fileLength, longestFile}
 use Rattle.planfile.specs.Read.{verdictOf, readOf}
-use Rattle.planfile.proofs.ReadLaws.{refuse-ext}
 
 -- the verdict on a file that is too long, by what its head holds: whether mark and version are right, N and T
 abbrev tooLong : Bool → ℕ → ℕ → Verdict

@@ -13,7 +13,7 @@ use Rattle.refusal.specs.declared.Refusal.{Refusal}
 use Rattle.refusal.specs.declared.Refusal.the-variants.{PortsOutOfRange, FrameOutOfRange, RowAboveFrame, ColumnAboveFrame, NotPlanFile, FileLength}
 use Rattle.refusal.specs.declared.Verdict.{Verdict}
 use Rattle.refusal.specs.declared.Verdict.the-variants.{Accepted, Refused}
-use Rattle.refusal.proofs.ChainLaws.{refuse-passed}
+use Rattle.refusal.proofs.ChainLaws.{refuse-passed, refuse-ext}
 use Rattle.plan.specs.Lines.{rowSum, columnSum}
 use Rattle.plan.specs.Range.{portsInRange, frameInRange}
 use Rattle.plan.specs.Accept.{withinFrame, IsPlan}
@@ -23,11 +23,6 @@ use Rattle.planfile.specs.Layout.{isMarked, versionIn, portsIn, frameIn,
 use Rattle.plan.specs.NoPlan.{noPlan}
 use Rattle.planfile.specs.Read.{ratesIn, verdictOf, planOf, readOf, FilePlan}
 use Rattle.planfile.proofs.LayoutLaws.{rates-length, padded-take, padded-length, padded-past}
-
--- two orders that begin with the same condition, and go on alike where it doesn't hold
-pub refuse-ext : (b : Bool) (r : Refusal) {v w : Verdict} → (b ≡ false → v ≡ w) → refuseIf b r v ≡ refuseIf b r w
-refuse-ext true r h = refl
-refuse-ext false r h = h refl
 
 -- "File: under 8 bytes 15, then 14, 1, 2, 15, 4, 5": of plan acceptance only the sums are left at the end
 pub verdict-order : (file : List ℕ) →

@@ -1,4 +1,4 @@
--- What an accepted verdict says of the conditions that were looked at on the way.
+-- What an accepted verdict says of the conditions that were looked at on the way, and orders that begin alike.
 use Prim.Native.Nat.{ℕ}
 use mathlib.Core.Path.{_≡_, refl}
 use mathlib.Core.Bool.{Bool, true, false}
@@ -18,3 +18,8 @@ refuse-passed false r rest e = (refl, e)
 pub then-passed : (v rest : Verdict) → andThen v rest ≡ Accepted → (v ≡ Accepted) × (rest ≡ Accepted)
 then-passed Accepted rest e = (refl, e)
 then-passed (Refused r) rest e = absurd (refused-not-accepted r e)
+
+-- two orders that begin with the same condition, and go on alike where it doesn't hold
+pub refuse-ext : (b : Bool) (r : Refusal) {v w : Verdict} → (b ≡ false → v ≡ w) → refuseIf b r v ≡ refuseIf b r w
+refuse-ext true r h = refl
+refuse-ext false r h = h refl

@@ -4,7 +4,7 @@ use mathlib.Core.Path.{_≡_, refl, sym, ap, _∙_}
 use mathlib.Core.List.{List, [], _∷_}
 use lib.ListN.{getD}
 use Rattle.refusal.specs.Number.{verdictNumberOf}
-use Rattle.refusal.specs.declared.Refusal.the-variants.{PortsOutOfRange, FrameOutOfRange, ListLength, RowAboveFrame, ColumnAboveFrame, DepthOutOfRange, StoreLength, PlanMismatch, PlanWaits, NoSuchPort, QueueFull, StateInvalid, CrosspointFull, NotPlanFile, FileLength}
+use Rattle.refusal.specs.declared.Refusal.the-variants.{PortsOutOfRange, FrameOutOfRange, ListLength, RowAboveFrame, ColumnAboveFrame, DepthOutOfRange, StoreLength, PlanMismatch, PlanWaits, NoSuchPort, QueueFull, StateInvalid, CrosspointFull, NotPlanFile, FileLength, NotPlanText}
 use Rattle.refusal.specs.declared.Verdict.{Verdict}
 use Rattle.refusal.specs.declared.Verdict.the-variants.{Accepted, Refused}
 
@@ -13,7 +13,7 @@ abbrev table : List Verdict
 table =
     Accepted ∷ Refused PortsOutOfRange ∷ Refused FrameOutOfRange ∷ Refused ListLength ∷ Refused RowAboveFrame ∷ Refused ColumnAboveFrame
     ∷ Refused DepthOutOfRange ∷ Refused StoreLength ∷ Refused PlanMismatch ∷ Refused PlanWaits ∷ Refused NoSuchPort ∷ Refused QueueFull
-    ∷ Refused StateInvalid ∷ Refused CrosspointFull ∷ Refused NotPlanFile ∷ Refused FileLength ∷ []
+    ∷ Refused StateInvalid ∷ Refused CrosspointFull ∷ Refused NotPlanFile ∷ Refused FileLength ∷ Refused NotPlanText ∷ []
 
 in-table : (v : Verdict) → getD table (verdictNumberOf v) Accepted ≡ v
 in-table Accepted = refl
@@ -32,6 +32,7 @@ in-table (Refused StateInvalid) = refl
 in-table (Refused CrosspointFull) = refl
 in-table (Refused NotPlanFile) = refl
 in-table (Refused FileLength) = refl
+in-table (Refused NotPlanText) = refl
 
 pub number-names-one : (v w : Verdict) → verdictNumberOf v ≡ verdictNumberOf w → v ≡ w
 number-names-one v w e = sym (in-table v) ∙ ap (λ (k : ℕ). getD table k Accepted) e ∙ in-table w

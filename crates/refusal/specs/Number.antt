@@ -1,8 +1,8 @@
--- The number of each refusal, from the scope's table "What is sent back". Only this file and the
--- function `number` have these numbers; all others use the names.
+-- The number of each refusal, from the scope's table "What is sent back" and, from 16 on, from the change requests. Only
+-- this file and the function `number` have these numbers; all others use the names.
 use Prim.Native.Nat.{ℕ}
 use Rattle.refusal.specs.declared.Refusal.{Refusal}
-use Rattle.refusal.specs.declared.Refusal.the-variants.{PortsOutOfRange, FrameOutOfRange, ListLength, RowAboveFrame, ColumnAboveFrame, DepthOutOfRange, StoreLength, PlanMismatch, PlanWaits, NoSuchPort, QueueFull, StateInvalid, CrosspointFull, NotPlanFile, FileLength}
+use Rattle.refusal.specs.declared.Refusal.the-variants.{PortsOutOfRange, FrameOutOfRange, ListLength, RowAboveFrame, ColumnAboveFrame, DepthOutOfRange, StoreLength, PlanMismatch, PlanWaits, NoSuchPort, QueueFull, StateInvalid, CrosspointFull, NotPlanFile, FileLength, NotPlanText}
 use Rattle.refusal.specs.declared.Verdict.{Verdict}
 use Rattle.refusal.specs.declared.Verdict.the-variants.{Accepted, Refused}
 
@@ -22,6 +22,7 @@ numberOf StateInvalid = 12
 numberOf CrosspointFull = 13
 numberOf NotPlanFile = 14
 numberOf FileLength = 15
+numberOf NotPlanText = 16
 
 -- A verdict's number is its refusal's; 0, which the table leaves free, stands for "accepted".
 abbrev pub verdictNumberOf : Verdict → ℕ

@@ -2,7 +2,7 @@
 ghost use mathlib.Core.Path.{_≡_};
 ghost use Rattle.refusal.specs.Number.{numberOf, verdictNumberOf};
 
-// A case for each row of the scope's table "What is sent back".
+// A case for each row of the scope's table "What is sent back", and for each number that a change request adds.
 pub enum Refusal {
     // N is outside 1 to 16
     PortsOutOfRange,
@@ -34,6 +34,8 @@ pub enum Refusal {
     NotPlanFile,
     // the file is under 8 bytes, or isn't 8 + 2 x N x N
     FileLength,
+    // the text isn't N records of N fields, each a number of 16 bits in one to five digits
+    NotPlanText,
 }
 
 // What a call answers: it was done, or it was refused for one reason.
@@ -63,6 +65,7 @@ impl Refusal {
             Refusal::CrosspointFull => 13,
             Refusal::NotPlanFile => 14,
             Refusal::FileLength => 15,
+            Refusal::NotPlanText => 16,
         }
     }
 }

@@ -1,26 +1,15 @@
--- What scale and boost answer and write: "Both read one lent list and write another, each N × N numbers long."
+-- What scale and boost answer and write: "Both read one lent list and write another, each N × N numbers long." The record of the
+-- verdict and the written list is that of every call that writes one.
 use Prim.Native.Nat.{ℕ, _*_, _≤_}
 use mathlib.Core.Bool.{not, _&&_}
-use mathlib.Core.List.{List}
 use mathlib.Core.Path.{_≡_}
 use lib.Dec.{eqb}
-use Rattle.refusal.specs.Chain.{refuseIf, ifAccepted}
+use Rattle.refusal.specs.Chain.{refuseIf}
+pub use Rattle.refusal.specs.Outcome.{Outcome, outcome, written}
 use Rattle.refusal.specs.declared.Refusal.the-variants.{PortsOutOfRange, FrameOutOfRange, ListLength}
 use Rattle.refusal.specs.declared.Verdict.{Verdict}
 use Rattle.refusal.specs.declared.Verdict.the-variants.{Accepted}
 use Rattle.plan.specs.Range.{mostPorts, mostSlots, portsInRange, frameInRange}
-
--- the verdict, and the written list as the call leaves it
-pub record Outcome : Type 0 where
-  pub verdict : Verdict
-  pub list : List ℕ
-
-abbrev pub outcome : Verdict → List ℕ → Outcome
-outcome verdict list = record { verdict = verdict; list = list }
-
--- "A refusal gives the number; .. written lists are unchanged."
-abbrev pub written : Verdict → List ℕ → List ℕ → Outcome
-written verdict result before = outcome verdict (ifAccepted verdict result before)
 
 -- The order of both begins with N, T and the lengths of the two lists: `from` of the one that is read, and
 -- `to` of the one that is written. ListLength stands for "a rate, demand or output list isn't N × N long".

@@ -1,7 +1,7 @@
 // Boost: spare slots are given out, diagonal by diagonal.
 ghost use mathlib.Core.Path.{_≡_};
 ghost use Prim.Native.Nat.{_*_, _<_, _≤_};
-ghost use lib.ListN.{length, getD};
+ghost use lib.ListN.{getD};
 ghost use Rattle.plan.specs.Range.{mostPorts};
 ghost use Rattle.plan.specs.Accept.{IsPlan, withinFrame};
 ghost use Rattle.plan.specs.Lines.{flowOf};
@@ -12,6 +12,7 @@ use crate::lists::check_lists;
 use crate::sums::Sums;
 use crate::sums::larger;
 use crate::sums::sums_of;
+use plan::lists::copy;
 use plan::range::MOST_PORTS;
 use refusal::Refusal;
 use refusal::Verdict;
@@ -27,15 +28,6 @@ fn sums_fit(sums: [u32; MOST_PORTS], n: usize, t: u32) -> bool
         }
     }
     true
-}
-
-fn copy(from: &[u16], to: &mut [u16])
-    requires { ⌜ length (now to) ≡ length (now from) ⌝ }
-    ensures { λ r. ⌜ now (to .exit) ≡ now (from .entry) ⌝ }
-{
-    for p in 0..from.len() {
-        to[p] = from[p];
-    }
 }
 
 // The column of row i on diagonal k.

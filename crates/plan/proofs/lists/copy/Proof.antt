@@ -1,22 +1,23 @@
 use borrow.Author.Needs.{needs}
-use Prim.Native.Nat.{_-_, _≤_}
-use mathlib.Core.Path.{_≡_, refl}
+use Prim.Native.Nat.{_-_, _<_, _≤_}
+use mathlib.Core.Path.{_≡_, refl, ap, sym, _∙_}
+use mathlib.Core.List.{[], _∷_, _++_}
+use native.Mathlib.Numerals.{add-one}
 use native.Mathlib.Omega.{arith}
 use denote.Ref.{now}
-use lib.ListN.{length, getD, length-set}
-use Rattle.regulator.specs.Sums.{Holds}
-use Rattle.regulator.proofs.HoldsLaws.{holds-next, holds-same}
-use Rattle.regulator.proofs.boost.copy.Statement.{statement}
-use Rattle.regulator.proofs.boost.copy.Tie as tie
+use lib.ListN.{length, getD, take, length-set}
+use lib.Seq.{take-suc, take-suc-set, take-all}
+use Rattle.plan.proofs.lists.copy.Statement.{statement}
+use Rattle.plan.proofs.lists.copy.Tie as tie
 
 abbrev Inv-loop : tie.InvT-loop
-Inv-loop from to₀ p₀ p-end to p = (p ≤ length from) × (p-end ≡ length from) × (length to ≡ length from) × Holds to (λ k. getD from k 0) p
+Inv-loop from to₀ p₀ p-end to p = (p ≤ length from) × (p-end ≡ length from) × (length to ≡ length from) × (take p to ≡ take p from)
 
 abbrev μ-loop : tie.MeasureT-loop
 μ-loop from to₀ p₀ p-end to p = length from - p
 
 loop-holds : tie.Need-loop-holds Inv-loop μ-loop
-loop-holds c = (search needs, refl, c .pre, λ k b. absurd (omega arith))
+loop-holds c = (omega arith, refl, c .pre, refl)
 
 mul-to : tie.Need-mul-to Inv-loop μ-loop
 mul-to c = search needs
@@ -40,7 +41,9 @@ loop-again : tie.Need-loop-again Inv-loop μ-loop
 loop-again c =
     let at = c .before .before .loop in
     let from = now (c .before .before .before .args .from) in
-    (omega arith, at .inv .1, simp length-set (at .inv .2), holds-next (at .to) (λ k. getD from k 0) (at .p) _ (slice-write-to c) (at .inv .3) refl)
+    let next : at .p < length from = omega arith in
+    let room : at .p < length (at .to) = omega arith in
+    (omega arith, at .inv .1, simp length-set (at .inv .2), rw (add-one, take-suc-set (at .to) (at .p) _ room, take-suc from (at .p) 0 next, at .inv .3) refl)
 
 same-length : tie.Need-same-length Inv-loop μ-loop
 same-length c = omega (arith, c .before .before .pre)
@@ -49,8 +52,7 @@ returns : tie.Need-returns Inv-loop μ-loop
 returns c =
     let at = c .before .loop in
     let from = now (c .before .before .args .from) in
-    let e : at .p ≡ length from = omega arith in
-    holds-same (at .to) from (λ k. getD from k 0) (length from) (at .inv .2) refl (rw e at (at .inv .3)) (λ k b. refl)
+    sym (take-all (at .p) (at .to) (omega arith)) ∙ at .inv .3 ∙ take-all (at .p) from (omega arith)
 
 pub copy-spec : {M : Type 1} → statement M
 copy-spec =

@@ -1,0 +1,5 @@
+pub mod Bytes
+pub mod Grammar
+pub mod Values
+pub mod Read
+pub mod Place
