@@ -6,7 +6,7 @@ use Rattle.plan.specs.Below.{listBelow}
 use Rattle.plan.specs.Lines.{rowSum, columnSum}
 use Rattle.plan.specs.Range.{portsInRange, frameInRange}
 use Rattle.plan.specs.Accept.{acceptOf}
-use Rattle.planfile.specs.Layout.{isMarked, ratesOf, padded}
+use Rattle.planfile.specs.Layout.{isMarked, ratesOf, paddedTo}
 use Rattle.planfile.specs.Read.{verdictOf, readOf}
 use Rattle.multiplexer.specs.Choose.{eligible, roundedUp, better, bestOf, chooseOf}
 use Rattle.multiplexer.specs.Count.{countsAfter, clearedBelow}
@@ -44,7 +44,7 @@ abbrev slot1 : List ℕ
 slot1 = 49 ∷ 32 ∷ 49 ∷ 32 ∷ 45 ∷ 32 ∷ 49 ∷ 32 ∷ 45 ∷ 10 ∷ []
 
 case-10 : printoutOf scopeFile ≡ header ++ slot0 ++ slot1
-unfolding printoutOf readOf verdictOf isMarked ratesOf padded framePrintoutOf startOf startVerdict freshWith overlaid slotLinesOf stepOf stepVerdict afterSlot takeoverOf validOf plansValid planValid flowsValid portsValid portValid depthInRange storeFits boardChoices headChoices choicesOf roomForAll roomFor movesOf boardMoves moveOf sendsOf headSends sendOf countsOf countsAfter clearedBelow chooseOf bestOf better eligible roundedUp acceptOf portsInRange frameInRange rowSum columnSum listBelow headerOf slotLineOf textBelow digitsOf
+unfolding printoutOf readOf verdictOf isMarked ratesOf paddedTo framePrintoutOf startOf startVerdict freshWith overlaid slotLinesOf stepOf stepVerdict afterSlot takeoverOf validOf plansValid planValid flowsValid portsValid portValid depthInRange storeFits boardChoices headChoices choicesOf roomForAll roomFor movesOf boardMoves moveOf sendsOf headSends sendOf countsOf countsAfter clearedBelow chooseOf bestOf better eligible roundedUp acceptOf portsInRange frameInRange rowSum columnSum listBelow headerOf slotLineOf textBelow digitsOf
 case-10 = refl
 
 -- the table's small example for number 15: refused 15

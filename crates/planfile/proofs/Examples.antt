@@ -1,4 +1,4 @@
--- The scope's file, and files for each refusal, computed by the definition.
+-- The scope's file, read and written, and files for each refusal, computed by the definitions.
 use Prim.Native.Nat.{ℕ}
 use mathlib.Core.Path.{_≡_, refl}
 use mathlib.Core.List.{List, [], _∷_}
@@ -7,13 +7,23 @@ use Rattle.refusal.specs.declared.Verdict.the-variants.{Accepted, Refused}
 use Rattle.plan.specs.Lines.{rowSum, columnSum}
 use Rattle.plan.specs.Range.{portsInRange, frameInRange}
 use Rattle.plan.specs.Accept.{acceptOf}
-use Rattle.planfile.specs.Layout.{isMarked, ratesOf, padded}
+use Rattle.planfile.specs.Layout.{isMarked, ratesOf, paddedTo}
 use Rattle.planfile.specs.Read.{verdictOf, planOf, readingOf, readOf}
+use Rattle.planfile.specs.Write.{headOf, rateBytes, fileOf}
 
 -- "4C 53 50 01 00 02 02 00 01 00 01 00 01 00 00 00 (hexadecimal)"
 scope-file : readOf (76 ∷ 83 ∷ 80 ∷ 1 ∷ 0 ∷ 2 ∷ 2 ∷ 0 ∷ 1 ∷ 0 ∷ 1 ∷ 0 ∷ 1 ∷ 0 ∷ 0 ∷ 0 ∷ []) ≡ readingOf Accepted (planOf 2 2 (1 ∷ 1 ∷ 1 ∷ 0 ∷ []))
-unfolding readOf verdictOf isMarked ratesOf padded portsInRange frameInRange acceptOf rowSum columnSum
+unfolding readOf verdictOf isMarked ratesOf paddedTo portsInRange frameInRange acceptOf rowSum columnSum
 scope-file = refl
+
+scope-file-written : fileOf 2 2 (1 ∷ 1 ∷ 1 ∷ 0 ∷ []) ≡ 76 ∷ 83 ∷ 80 ∷ 1 ∷ 0 ∷ 2 ∷ 2 ∷ 0 ∷ 1 ∷ 0 ∷ 1 ∷ 0 ∷ 1 ∷ 0 ∷ 0 ∷ 0 ∷ []
+unfolding fileOf headOf rateBytes
+scope-file-written = refl
+
+-- T and rates above 255 have a high byte
+high-bytes : fileOf 1 772 (258 ∷ []) ≡ 76 ∷ 83 ∷ 80 ∷ 1 ∷ 0 ∷ 1 ∷ 4 ∷ 3 ∷ 2 ∷ 1 ∷ []
+unfolding fileOf headOf rateBytes
+high-bytes = refl
 
 -- a file of version, N and T, where these are below 256
 abbrev file : ℕ → ℕ → ℕ → List ℕ → List ℕ

@@ -1,4 +1,4 @@
--- The rates of a file, and the array of 256 places that holds them: filled place by place, and 0 past them.
+-- The rates of a file, and an array that holds a list: filled place by place, and 0 past it.
 use Prim.Native.Nat.{ℕ, zero, suc, _+_, _*_, _-_, _<_, _≤_}
 use mathlib.Core.Path.{_≡_, refl, ap, _∙_}
 use mathlib.Core.List.{List, [], _∷_, _++_, append-assoc}
@@ -8,29 +8,32 @@ use lib.ListN.{length, getD, set, take, replicate, length-append, length-replica
 use lib.Seq.{take-at, set-at, getD-append-add}
 use Rattle.plan.specs.Range.{mostFlows}
 use Rattle.plan.proofs.BelowLaws.{lt-or-le}
-use Rattle.planfile.specs.Layout.{wordAt, ratesOf, padded}
+use Rattle.planfile.specs.Layout.{wordAt, ratesOf, paddedTo, padded}
 
 pub rates-length : (file : List ℕ) (count : ℕ) → length (ratesOf file count) ≡ count
 unfolding ratesOf
 rates-length file zero = refl
 rates-length file (suc p) = simp length-append (omega (arith, rates-length file p))
 
--- one more rate is written behind those that stand in the array
+-- one more number is written behind those that stand in the array
+pub padded-one : (size : ℕ) (list : List ℕ) (k x : ℕ) → length list ≡ k → k < size → set (paddedTo size list) k x ≡ paddedTo size (list ++ (x ∷ []))
+unfolding paddedTo
+padded-one size list k x e h =
+    let places : size - length list ≡ suc (size - suc k) = omega arith in
+    let next : size - length (list ++ (x ∷ [])) ≡ size - suc k = simp length-append (omega arith) in
+    rw (places, next, append-assoc) (set-at list 0 _ x k e)
+
 pub padded-next : (file : List ℕ) (p : ℕ) → p < mostFlows → set (padded (ratesOf file p)) p (wordAt file (8 + 2 * p)) ≡ padded (ratesOf file (suc p))
-unfolding padded ratesOf
-padded-next file p h =
-    let here = ratesOf file p in
-    let places : mostFlows - length here ≡ suc (mostFlows - suc p) = omega (arith, rates-length file p) in
-    let next : mostFlows - length (here ++ (wordAt file (8 + 2 * p) ∷ [])) ≡ mostFlows - suc p = simp length-append (omega (arith, rates-length file p)) in
-    rw (places, next, append-assoc) (set-at here 0 _ _ p (rates-length file p))
+unfolding ratesOf
+padded-next file p h = padded-one mostFlows (ratesOf file p) p (wordAt file (8 + 2 * p)) (rates-length file p) h
 
 pub padded-take : (rates : List ℕ) (n : ℕ) → length rates ≡ n → take n (padded rates) ≡ rates
-unfolding padded
+unfolding paddedTo
 padded-take rates n e = take-at rates _ n e
 
-pub padded-length : (rates : List ℕ) → length rates ≤ mostFlows → length (padded rates) ≡ mostFlows
-unfolding padded
-padded-length rates h = simp (length-append, length-replicate) (omega arith)
+pub padded-length : (size : ℕ) (list : List ℕ) → length list ≤ size → length (paddedTo size list) ≡ size
+unfolding paddedTo
+padded-length size list h = simp (length-append, length-replicate) (omega arith)
 
 zeros : (n p : ℕ) → getD {A = ℕ} (replicate n 0) p 0 ≡ 0
 zeros n p =
@@ -40,7 +43,7 @@ zeros n p =
     (lt-or-le p n)
 
 pub padded-past : (rates : List ℕ) (p : ℕ) → length rates ≤ p → getD (padded rates) p 0 ≡ 0
-unfolding padded
+unfolding paddedTo
 padded-past rates p h =
     let e : p ≡ length rates + (p - length rates) = omega arith in
     let left = mostFlows - length rates in

@@ -1,4 +1,5 @@
 pub mod LayoutLaws
 pub mod ReadLaws
 pub mod CutLaws
+pub mod WriteLaws
 pub mod Examples

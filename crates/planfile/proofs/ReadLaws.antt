@@ -2,12 +2,12 @@
 -- refused one leaves nothing but 0.
 use Prim.Native.Nat.{ℕ, _*_}
 use mathlib.Core.Path.{_≡_, refl}
-use mathlib.Core.Bool.{Bool, true, false, _&&_, not}
+use mathlib.Core.Bool.{true, _&&_, not}
 use mathlib.Core.List.{List}
 use native.Mathlib.Omega.{arith}
 use lib.Dec.{ltb, eqb}
 use lib.ListN.{length}
-use borrow.Author.Tests.{not-false}
+use borrow.Author.Tests.{eqb-true, not-false}
 use Rattle.refusal.specs.Chain.{refuseIf}
 use Rattle.refusal.specs.declared.Refusal.{Refusal}
 use Rattle.refusal.specs.declared.Refusal.the-variants.{PortsOutOfRange, FrameOutOfRange, RowAboveFrame, ColumnAboveFrame, NotPlanFile, FileLength}
@@ -15,7 +15,7 @@ use Rattle.refusal.specs.declared.Verdict.{Verdict}
 use Rattle.refusal.specs.declared.Verdict.the-variants.{Accepted, Refused}
 use Rattle.refusal.proofs.ChainLaws.{refuse-passed, refuse-ext}
 use Rattle.plan.specs.Lines.{rowSum, columnSum}
-use Rattle.plan.specs.Range.{portsInRange, frameInRange}
+use Rattle.plan.specs.Range.{mostFlows, portsInRange, frameInRange}
 use Rattle.plan.specs.Accept.{withinFrame, IsPlan}
 use Rattle.plan.proofs.AcceptLaws.{accepted, sums-decide}
 use Rattle.plan.proofs.LineLaws.{square-small}
@@ -44,7 +44,13 @@ verdict-order file =
     refuse-ext (not (eqb (length file) (fileLength (portsIn file)))) FileLength λ _.
     sums-decide (portsIn file) (frameIn file) (ratesIn file) (not-false _ hn) (not-false _ ht) (rates-length file (portsIn file * portsIn file))
 
-accepted-file : (file : List ℕ) → verdictOf file ≡ Accepted → IsPlan (portsIn file) (frameIn file) (ratesIn file)
+-- what is known of an accepted file
+pub record AcceptedFile (file : List ℕ) : Type 0 where
+  pub marked : (isMarked file && eqb (versionIn file) 1) ≡ true
+  pub whole : length file ≡ fileLength (portsIn file)
+  pub plan : IsPlan (portsIn file) (frameIn file) (ratesIn file)
+
+pub accepted-file : (file : List ℕ) → verdictOf file ≡ Accepted → AcceptedFile file
 unfolding verdictOf
 accepted-file file e =
     let head = refuse-passed (ltb (length file) 8) _ _ e in
@@ -52,20 +58,24 @@ accepted-file file e =
     let ports = refuse-passed (not (portsInRange (portsIn file))) _ _ (mark .1) in
     let frame = refuse-passed (not (frameInRange (frameIn file))) _ _ (ports .1) in
     let whole = refuse-passed (not (eqb (length file) (fileLength (portsIn file)))) _ _ (frame .1) in
-    accepted (portsIn file) (frameIn file) (ratesIn file) (whole .1)
+    record {
+      marked = not-false _ (mark .0);
+      whole = eqb-true (length file) (fileLength (portsIn file)) (not-false _ (whole .0));
+      plan = accepted (portsIn file) (frameIn file) (ratesIn file) (whole .1);
+    }
 
 plan-read : (n t : ℕ) (rates : List ℕ) → IsPlan n t rates → FilePlan (planOf n t rates)
 plan-read n t rates p =
     let few = square-small n (p .few-ports) in
     record {
       is-plan = rw (padded-take rates (n * n) (p .square)) p;
-      places = padded-length rates (omega (arith, p .square));
+      places = padded-length mostFlows rates (omega (arith, p .square));
       zero-past = λ q h. padded-past rates q (omega (arith, p .square));
     }
 
 pub accepted-plan : (file : List ℕ) → readOf file .verdict ≡ Accepted → FilePlan (readOf file .plan)
 unfolding readOf
-accepted-plan file e = rw e (plan-read (portsIn file) (frameIn file) (ratesIn file) (accepted-file file e))
+accepted-plan file e = rw e (plan-read (portsIn file) (frameIn file) (ratesIn file) (accepted-file file e .plan))
 
 pub refused-plan : (file : List ℕ) (r : Refusal) → readOf file .verdict ≡ Refused r → readOf file .plan ≡ noPlan
 unfolding readOf

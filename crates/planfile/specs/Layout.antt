@@ -40,6 +40,10 @@ unfoldable pub ratesOf : List ℕ → ℕ → List ℕ
 ratesOf file zero = []
 ratesOf file (suc p) = ratesOf file p ++ (wordAt file (8 + 2 * p) ∷ [])
 
--- these rates in an array of 256 places, 0 in those that are left
-unfoldable pub padded : List ℕ → List ℕ
-padded rates = rates ++ replicate (mostFlows - length rates) 0
+-- a list in an array of `size` places, 0 in those that are left
+unfoldable pub paddedTo : ℕ → List ℕ → List ℕ
+paddedTo size list = list ++ replicate (size - length list) 0
+
+-- rates in the array of a plan
+abbrev pub padded : List ℕ → List ℕ
+padded rates = paddedTo mostFlows rates

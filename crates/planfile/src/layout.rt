@@ -12,7 +12,7 @@ use plan::range::MOST_FLOWS;
 // the bytes before the rates
 pub const HEAD: usize = 8;
 
-const VERSION: u16 = 1;
+pub const VERSION: u16 = 1;
 
 fn wide(x: u8) -> u16
     ensures { λ r. ⌜ (r ≡ x) × (r < 256) ⌝ }

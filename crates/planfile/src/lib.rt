@@ -1,4 +1,4 @@
-// The plan file: bytes to an accepted plan, or the refusal.
+// The plan file: bytes to an accepted plan, or the refusal; and an accepted plan to bytes (writing).
 ghost use mathlib.Core.Path.{_≡_};
 ghost use Prim.Native.Nat.{_+_, _*_, _≤_};
 ghost use lib.ListN.{length};
@@ -23,6 +23,7 @@ use refusal::Refusal;
 use refusal::Verdict;
 
 mod layout;
+pub mod writing;
 
 // The bytes of the longest plan file.
 pub const LONGEST_FILE: usize = HEAD + 2 * MOST_FLOWS;

@@ -6,7 +6,7 @@ use native.Mathlib.Omega.{arith}
 use denote.Ref.{now}
 use lib.ListN.{length}
 use Rattle.plan.specs.Range.{mostFlows}
-use Rattle.planfile.specs.Layout.{ratesOf, padded}
+use Rattle.planfile.specs.Layout.{ratesOf, paddedTo, padded}
 use Rattle.planfile.proofs.LayoutLaws.{padded-next}
 use Rattle.planfile.proofs.layout.rates_of.Statement.{statement}
 use Rattle.planfile.proofs.layout.rates_of.Tie as tie
@@ -18,7 +18,7 @@ abbrev μ-loop : tie.MeasureT-loop
 μ-loop bytes count rates₀ p₀ rates p = count - p
 
 loop-holds : tie.Need-loop-holds Inv-loop μ-loop
-unfolding padded ratesOf
+unfolding paddedTo ratesOf
 loop-holds c = search needs
 
 mul-word-at : tie.Need-mul-word-at Inv-loop μ-loop
