@@ -24,8 +24,10 @@ use Rattle.planpair.specs.Rates.{overlaid}
 use Rattle.crossbar.specs.Start.{freshWith, startVerdict, startOf}
 use Rattle.crossbar.specs.Takeover.{takeoverOf}
 use Rattle.crossbar.specs.Step.{boardChoices, headChoices, afterSlot, stepVerdict, stepOf}
-use Rattle.frame.specs.Text.{digitsOf, textBelow}
-use Rattle.frame.specs.Printout.{headerOf, slotLineOf, refusalLineOf, slotLinesOf, framePrintoutOf, printoutOf}
+use Rattle.console.specs.Text.{digitsOf}
+use Rattle.frame.specs.Text.{textBelow}
+use Rattle.console.specs.Refused.{refusalLineOf}
+use Rattle.frame.specs.Printout.{headerOf, slotLineOf, slotLinesOf, framePrintoutOf, printoutOf}
 
 -- "4C 53 50 01 00 02 02 00 01 00 01 00 01 00 00 00 (hexadecimal)"
 abbrev scopeFile : List ℕ

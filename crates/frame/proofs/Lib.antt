@@ -1,4 +1,3 @@
-pub mod DigitLaws
 pub mod TextLaws
 pub mod PrintoutLaws
 pub mod RoomLaws

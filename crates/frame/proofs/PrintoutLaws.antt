@@ -24,7 +24,8 @@ use Rattle.crossbar.specs.declared.state.Reply.{Reply}
 use Rattle.crossbar.specs.declared.state.SlotReply.{SlotReply}
 use Rattle.crossbar.specs.declared.state.Switch.{Switch}
 use Rattle.frame.specs.Input.{mostInput}
-use Rattle.frame.specs.Printout.{headerOf, slotLineOf, refusalLineOf, slotLinesOf, framePrintoutOf, printoutOf}
+use Rattle.console.specs.Refused.{refusalLineOf}
+use Rattle.frame.specs.Printout.{headerOf, slotLineOf, slotLinesOf, framePrintoutOf, printoutOf}
 
 -- a text is the one where the call was accepted, and the other where it was refused
 pub record Decided (v : Verdict) (text accepted-text refused-text : List ℕ) : Type 0 where
@@ -59,14 +60,6 @@ pub by-start : (plan : Plan) (store : List ℕ) (r : Reply) → store ≡ replic
     (refusalLineOf (r .verdict))
 unfolding framePrintoutOf
 by-start plan store r zeros is = decided (r .verdict) _ _ _ (rw (is, zeros) refl)
-
--- the store of the program: the first places of an array of zeros
-pub zeros-taken : (n : ℕ) → n ≤ mostPorts → take (n * n) (replicate {A = ℕ} mostFlows 0) ≡ replicate (n * n) 0
-zeros-taken n few =
-    let left = mostFlows - n * n in
-    let all : n * n + left ≡ mostFlows = omega (arith, square-small n few) in
-    subst (λ (k : ℕ). take (n * n) (replicate {A = ℕ} k 0) ≡ replicate (n * n) 0) all
-    (rw (← replicate-append-replicate {A = ℕ} (n * n) left 0) (take-at (replicate (n * n) 0) (replicate left 0) (n * n) (length-replicate (n * n) 0)))
 
 pub by-reading : (file : List ℕ) (r : Reading) → r ≡ readOf file
     → Decided (r .verdict) (printoutOf file) (framePrintoutOf (r .plan)) (refusalLineOf (r .verdict))

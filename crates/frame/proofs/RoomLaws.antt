@@ -5,7 +5,6 @@ use mathlib.Core.Path.{_≡_, refl}
 use native.Mathlib.Omega.{arith}
 use lib.ListN.{length, replicate, length-append}
 use Rattle.refusal.specs.Chain.{ifAccepted}
-use Rattle.refusal.specs.Number.{verdictNumberOf}
 use Rattle.refusal.specs.declared.Verdict.{Verdict}
 use Rattle.refusal.specs.declared.Verdict.the-variants.{Accepted, Refused}
 use Rattle.plan.specs.Range.{mostPorts, mostSlots}
@@ -22,9 +21,11 @@ use Rattle.crossbar.specs.Start.{startOf}
 use Rattle.crossbar.specs.Step.{stepOf}
 use Rattle.crossbar.specs.declared.state.Switch.{Switch}
 use Rattle.crossbar.proofs.AnswerLaws.{step-moves-name, step-sends-name}
-use Rattle.frame.specs.Text.{decimalOf, HasRoom, Written}
-use Rattle.frame.specs.Printout.{inputName, outputName, namesOf, headerOf, choiceOf, sideChoicesOf, slotLineOf, refusalLineOf, slotLinesOf, framePrintoutOf, printoutOf, headerRoom, slotLineRoom, printoutRoom, Prints}
-use Rattle.frame.proofs.DigitLaws.{digits-within, digits-below}
+use Rattle.console.specs.Text.{decimalOf, HasRoom, Written}
+use Rattle.console.specs.Refused.{refusalLineOf}
+use Rattle.frame.specs.Printout.{inputName, outputName, namesOf, headerOf, choiceOf, sideChoicesOf, slotLineOf, slotLinesOf, framePrintoutOf, printoutOf, headerRoom, slotLineRoom, printoutRoom, Prints}
+use Rattle.console.proofs.DigitLaws.{digits-below}
+use Rattle.console.proofs.TextLaws.{refusal-short}
 use Rattle.frame.proofs.TextLaws.{below-short}
 
 -- the number of a port
@@ -60,10 +61,6 @@ slot-short s store n slot few l =
       choices-short (r .moves) n (step-moves-name s store),
       choices-short (r .sends) n (step-sends-name s store),
     ))
-
-refusal-short : (v : Verdict) → length (refusalLineOf v) ≤ slotLineRoom
-unfolding refusalLineOf
-refusal-short v = simp length-append (omega (arith, digits-within 20 (verdictNumberOf v)))
 
 either-short : (k : ℕ) (v : Verdict) (x y : List ℕ) → (v ≡ Accepted → length x ≤ k) → length y ≤ k → length (ifAccepted v x y) ≤ k
 either-short k Accepted x y hx hy = hx refl

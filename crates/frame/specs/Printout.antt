@@ -7,8 +7,6 @@ use mathlib.Core.List.{List, [], _∷_, _++_}
 use mathlib.Core.Path.{_≡_}
 use lib.ListN.{length, take, drop, replicate}
 use Rattle.refusal.specs.Chain.{ifAccepted}
-use Rattle.refusal.specs.Number.{verdictNumberOf}
-use Rattle.refusal.specs.declared.Verdict.{Verdict}
 use Rattle.plan.specs.Range.{mostPorts, mostSlots}
 use Rattle.plan.specs.declared.Plan.{Plan}
 use Rattle.planfile.specs.Read.{readOf}
@@ -20,7 +18,9 @@ use Rattle.planpair.specs.Rates.{planRates}
 use Rattle.crossbar.specs.Start.{startOf}
 use Rattle.crossbar.specs.Step.{stepOf}
 use Rattle.crossbar.specs.declared.state.Switch.{Switch}
-use Rattle.frame.specs.Text.{decimalOf, textBelow}
+use Rattle.console.specs.Text.{decimalOf}
+use Rattle.console.specs.Refused.{lineEnd, refusalLineOf}
+use Rattle.frame.specs.Text.{textBelow}
 
 -- "slot"
 abbrev slotName : List ℕ
@@ -33,14 +33,6 @@ inputName = 32 ∷ 105 ∷ 110 ∷ []
 -- " out"
 abbrev pub outputName : List ℕ
 outputName = 32 ∷ 111 ∷ 117 ∷ 116 ∷ []
-
--- "refused" and a space
-abbrev refusedName : List ℕ
-refusedName = 114 ∷ 101 ∷ 102 ∷ 117 ∷ 115 ∷ 101 ∷ 100 ∷ 32 ∷ []
-
--- LF
-abbrev lineEnd : List ℕ
-lineEnd = 10 ∷ []
 
 -- the ports below n, each by its side's name and its number
 abbrev pub namesOf : List ℕ → ℕ → List ℕ
@@ -67,10 +59,6 @@ sideChoicesOf ports n = textBelow (λ p. choiceOf (answerOf ports p)) n
 -- "a line a slot with the slot, the output chosen by each input, the input chosen by each output"
 unfoldable pub slotLineOf : ℕ → List Port → List Port → ℕ → List ℕ
 slotLineOf slot boards heads n = decimalOf slot ++ sideChoicesOf boards n ++ sideChoicesOf heads n ++ lineEnd
-
--- "prints "refused", a space and its number"
-unfoldable pub refusalLineOf : Verdict → List ℕ
-refusalLineOf v = refusedName ++ decimalOf (verdictNumberOf v) ++ lineEnd
 
 -- the lines of the slots from `slot` on, `left` of them: each step gets the state that the last one returned, and "the
 -- program stops at the first refusal"

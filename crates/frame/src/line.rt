@@ -1,28 +1,13 @@
 // The lines of the printout. Each function writes into a buffer from the place `at` and answers the place behind.
 ghost use Prim.Native.Nat.{_≤_};
 ghost use Rattle.plan.specs.Range.{mostPorts};
-ghost use Rattle.frame.specs.Text.{decimalOf, HasRoom, Written};
-ghost use Rattle.frame.specs.Printout.{namesOf, chosenOf, choiceOf, sideChoicesOf, headerOf, slotLineOf, refusalLineOf};
+ghost use Rattle.console.specs.Text.{HasRoom, Written};
+ghost use Rattle.frame.specs.Printout.{namesOf, chosenOf, choiceOf, sideChoicesOf, headerOf, slotLineOf};
+use console::text::number;
+use console::text::put;
 use fabric::flow::Answer;
 use fabric::flow::Port;
 use plan::range::MOST_PORTS;
-use refusal::Verdict;
-
-fn put(out: &mut [u8], at: usize, text: &[u8]) -> usize
-    requires { ⌜ HasRoom (now out) at (now text) ⌝ }
-    ensures { λ r. ⌜ Written (now (out .entry)) at (now (text .entry)) (now (out .exit)) r ⌝ }
-{
-    at + bytes::copy(text, &mut out[at..])
-}
-
-fn number(out: &mut [u8], at: usize, value: u64) -> usize
-    requires { ⌜ HasRoom (now out) at (decimalOf value) ⌝ }
-    ensures { λ r. ⌜ Written (now (out .entry)) at (decimalOf value) (now (out .exit)) r ⌝ }
-{
-    let mut digits = [0u8; 20];
-    let len = io::decimal(value, &mut digits);
-    put(out, at, &digits[..len])
-}
 
 // The names of the ports of one side.
 fn names(out: &mut [u8], from: usize, side: &[u8], n: usize) -> usize
@@ -95,14 +80,5 @@ pub fn slot_line(
     let boards_at = number(out, at, slot as u64);
     let heads_at = choices(out, boards_at, boards, n);
     let end = choices(out, heads_at, heads, n);
-    put(out, end, b"\n")
-}
-
-pub fn refusal_line(out: &mut [u8], at: usize, verdict: Verdict) -> usize
-    requires { ⌜ HasRoom (now out) at (refusalLineOf verdict) ⌝ }
-    ensures { λ r. ⌜ Written (now (out .entry)) at (refusalLineOf verdict) (now (out .exit)) r ⌝ }
-{
-    let number_at = put(out, at, b"refused ");
-    let end = number(out, number_at, verdict.number() as u64);
     put(out, end, b"\n")
 }

@@ -1,11 +1,11 @@
 // The printout of a plan file, as a whole.
 ghost use Prim.Native.Nat.{_≤_};
 ghost use Rattle.plan.specs.Range.{mostPorts};
-ghost use Rattle.frame.specs.Text.{HasRoom, Written};
+ghost use Rattle.console.specs.Text.{HasRoom, Written};
 ghost use Rattle.frame.specs.Printout.{slotLinesOf, framePrintoutOf, Prints};
 use crate::line::header;
-use crate::line::refusal_line;
 use crate::line::slot_line;
+use console::text::refusal_line;
 use crossbar::start::start;
 use crossbar::state::Switch;
 use plan::Plan;

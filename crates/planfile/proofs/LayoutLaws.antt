@@ -1,13 +1,14 @@
 -- The rates of a file, and an array that holds a list: filled place by place, and 0 past it.
 use Prim.Native.Nat.{ℕ, zero, suc, _+_, _*_, _-_, _<_, _≤_}
-use mathlib.Core.Path.{_≡_, refl, ap, _∙_}
+use mathlib.Core.Path.{_≡_, refl, ap, subst, _∙_}
 use mathlib.Core.List.{List, [], _∷_, _++_, append-assoc}
 use mathlib.Core.Logic.{⊎-elim}
 use native.Mathlib.Omega.{arith}
-use lib.ListN.{length, getD, set, take, replicate, length-append, length-replicate, getD-replicate, List·getD-eq-default}
+use lib.ListN.{length, getD, set, take, replicate, length-append, length-replicate, replicate-append-replicate, getD-replicate, List·getD-eq-default}
 use lib.Seq.{take-at, set-at, getD-append-add}
-use Rattle.plan.specs.Range.{mostFlows}
+use Rattle.plan.specs.Range.{mostPorts, mostFlows}
 use Rattle.plan.proofs.BelowLaws.{lt-or-le}
+use Rattle.plan.proofs.LineLaws.{square-small}
 use Rattle.planfile.specs.Layout.{wordAt, ratesOf, paddedTo, padded}
 
 pub rates-length : (file : List ℕ) (count : ℕ) → length (ratesOf file count) ≡ count
@@ -48,3 +49,11 @@ padded-past rates p h =
     let e : p ≡ length rates + (p - length rates) = omega arith in
     let left = mostFlows - length rates in
     ap (λ (q : ℕ). getD (padded rates) q 0) e ∙ getD-append-add rates (replicate left 0) (p - length rates) 0 ∙ zeros left (p - length rates)
+
+-- the first places of an array of zeros
+pub zeros-taken : (n : ℕ) → n ≤ mostPorts → take (n * n) (replicate {A = ℕ} mostFlows 0) ≡ replicate (n * n) 0
+zeros-taken n few =
+    let left = mostFlows - n * n in
+    let all : n * n + left ≡ mostFlows = omega (arith, square-small n few) in
+    subst (λ (k : ℕ). take (n * n) (replicate {A = ℕ} k 0) ≡ replicate (n * n) 0) all
+    (rw (← replicate-append-replicate {A = ℕ} (n * n) left 0) (take-at (replicate (n * n) 0) (replicate left 0) (n * n) (length-replicate (n * n) 0)))

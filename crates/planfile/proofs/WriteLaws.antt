@@ -5,25 +5,27 @@ use mathlib.Core.Path.{_≡_, refl, ap, sym, _∙_}
 use mathlib.Core.Bool.{true, _&&_}
 use mathlib.Core.List.{List, [], _∷_, _++_, append-assoc, append-nil}
 use mathlib.Core.Logic.{⊎-elim}
-use native.Mathlib.Nat.{mod-add-div}
 use native.Mathlib.Numerals.{add-one}
 use native.Mathlib.Omega.{arith}
 use lib.Dec.{ltb, eqb}
 use lib.ListN.{length, getD, set, take, drop, length-append, List·getD-append}
 use lib.Seq.{take-suc, getD-append-add, getD-at, take-all, ext-getD}
 use borrow.Author.Tests.{le-ltb, eqb-true, eq-eqb}
-use Rattle.refusal.specs.declared.Verdict.the-variants.{Accepted}
+use Rattle.refusal.specs.declared.Refusal.{Refusal}
+use Rattle.refusal.specs.declared.Verdict.{Verdict}
+use Rattle.refusal.specs.declared.Verdict.the-variants.{Accepted, Refused}
 use Rattle.plan.specs.Range.{mostFlows, portsInRange, frameInRange}
 use Rattle.plan.specs.Accept.{acceptOf, IsPlan}
 use Rattle.plan.proofs.AcceptLaws.{accepted}
 use Rattle.plan.specs.Below.{listBelow}
 use Rattle.plan.proofs.BelowLaws.{and-true, below-or-last}
+use Rattle.plan.proofs.LineLaws.{square-small}
 use Rattle.plan.proofs.ListLaws.{length-list, getD-list}
 use Rattle.plan.proofs.RangeLaws.{ports-in, frame-in}
 use Rattle.planfile.specs.Layout.{byteAt, wordAt, isMarked, versionIn, portsIn, frameIn, fileLength, longestFile, ratesOf, paddedTo}
 use Rattle.planfile.specs.Read.{verdictOf, readOf}
-use Rattle.planfile.specs.Write.{wordOf, headOf, rateBytes, fileOf, ReadsBack, AreBytes, WritesBack}
-use Rattle.planfile.proofs.LayoutLaws.{rates-length, padded-one, padded-take}
+use Rattle.planfile.specs.Write.{wordOf, headOf, rateBytes, fileOf, writingOf, writeOf, ReadsBack, AreBytes, WritesBack}
+use Rattle.planfile.proofs.LayoutLaws.{rates-length, padded-one, padded-take, padded-length}
 use Rattle.planfile.proofs.ReadLaws.{accepted-file}
 
 head-length : (n t : ℕ) → length (headOf n t) ≡ 8
@@ -67,6 +69,10 @@ rate-byte rates (suc count) p j l small =
     rw (place, sym e) (getD-append-add (rateBytes rates p) (wordOf (getD rates p 0)) j 0))
     (below-or-last p count l)
 
+-- the two bytes of a word joined
+word-joined : (x : ℕ) → x % 256 + 256 * (x / 256) ≡ x
+word-joined x = omega arith
+
 -- What is read of a file that was written.
 module _ (n t : ℕ) (rates : List ℕ) where
   marked-written : (isMarked (fileOf n t rates) && eqb (versionIn (fileOf n t rates)) 1) ≡ true
@@ -79,7 +85,7 @@ module _ (n t : ℕ) (rates : List ℕ) where
 
   frame-written : frameIn (fileOf n t rates) ≡ t
   unfolding fileOf headOf
-  frame-written = mod-add-div t 256
+  frame-written = word-joined t
 
   byte-written : (p j at : ℕ) → p < length rates → j < 2 → at ≡ 8 + (2 * p + j) → byteAt (fileOf n t rates) at ≡ getD (wordOf (getD rates p 0)) j 0
   unfolding fileOf
@@ -90,7 +96,7 @@ module _ (n t : ℕ) (rates : List ℕ) where
   word-written : (p : ℕ) → p < length rates → wordAt (fileOf n t rates) (8 + 2 * p) ≡ getD rates p 0
   word-written p l =
       rw (byte-written p 0 (8 + 2 * p) l (omega arith) (omega arith), byte-written p 1 (8 + 2 * p + 1) l (omega arith) (omega arith))
-      (mod-add-div (getD rates p 0) 256)
+      (word-joined (getD rates p 0))
 
   rates-written : (count : ℕ) → count ≤ length rates → ratesOf (fileOf n t rates) count ≡ take count rates
   unfolding ratesOf
@@ -181,3 +187,24 @@ writes-back file bytes e =
     (file-read file bytes (known .marked) (n * n) (n * n) (omega arith)
     ∙ ap (listBelow (byteAt file)) (sym (known .whole))
     ∙ all-bytes file)
+
+-- what an accepted plan, and a refused one, are written as
+pub write-accepted : (n t : ℕ) (rates : List ℕ) → acceptOf n t rates ≡ Accepted → writeOf n t rates ≡ writingOf Accepted (fileOf n t rates)
+unfolding writeOf
+write-accepted n t rates e = rw e refl
+
+pub refused-same : (r : Refusal) (file other : List ℕ) → writingOf (Refused r) file ≡ writingOf (Refused r) other
+unfolding writingOf
+refused-same r file other = refl
+
+-- the bytes of a file are within the array
+pub writing-within : (v : Verdict) (file : List ℕ) → (v ≡ Accepted → length file ≤ longestFile) → writingOf v file .length ≤ length (writingOf v file .bytes)
+unfolding writingOf
+writing-within Accepted file short = omega (arith, padded-length longestFile file (short refl), short refl)
+writing-within (Refused r) file short = omega arith
+
+-- no file of an accepted plan is longer than the longest
+pub file-short : (n t : ℕ) (rates : List ℕ) → acceptOf n t rates ≡ Accepted → length (fileOf n t rates) ≤ longestFile
+file-short n t rates e =
+    let plan = accepted n t rates e in
+    omega (arith, file-length n t rates, square-small n (plan .few-ports), plan .square)

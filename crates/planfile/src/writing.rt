@@ -1,14 +1,17 @@
 // Plans to bytes.
+ghost use mathlib.Core.List.{[]};
 ghost use mathlib.Core.Path.{_≡_};
 ghost use Prim.Native.Nat.{_/_, _%_, _<_, _≤_};
 ghost use lib.ListN.{length};
 ghost use Rattle.plan.specs.Range.{mostFlows};
 ghost use Rattle.planfile.specs.Layout.{longestFile, paddedTo};
-ghost use Rattle.planfile.specs.Write.{headOf, fileOf, writeOf};
+ghost use Rattle.planfile.specs.Write.{headOf, fileOf, writingOf, writeOf};
+ghost use Rattle.refusal.specs.declared.Verdict.the-variants.{Refused};
 use crate::LONGEST_FILE;
 use crate::layout::HEAD;
 use crate::layout::VERSION;
 use plan::acceptance::accept;
+use refusal::Refusal;
 use refusal::Verdict;
 
 // The file of an accepted plan: its bytes, as many as `length` says, and 0 in the places past them. Of a refused plan all
@@ -64,23 +67,32 @@ fn file(n: usize, t: u32, rates: &[u16]) -> [u8; LONGEST_FILE]
     bytes
 }
 
+pub fn no_file(refusal: Refusal) -> Writing
+    ensures { λ r. ⌜ r ≡ writingOf (Refused refusal) [] ⌝ }
+{
+    let verdict = Verdict::Refused(refusal);
+    let bytes = [0u8; LONGEST_FILE];
+    Writing {
+        verdict,
+        length: 0,
+        bytes,
+    }
+}
+
 // The file of a plan, if it is accepted.
 pub fn write(n: usize, t: u32, rates: &[u16]) -> Writing
     ensures { λ r. ⌜ r ≡ writeOf n t (now (rates .entry)) ⌝ }
 {
-    let verdict = accept(n, t, rates);
-    let Verdict::Accepted = verdict else {
-        let bytes = [0u8; LONGEST_FILE];
-        return Writing {
-            verdict,
-            length: 0,
-            bytes,
-        };
-    };
-    let bytes = file(n, t, rates);
-    Writing {
-        verdict,
-        length: HEAD + 2 * rates.len(),
-        bytes,
+    match accept(n, t, rates) {
+        Verdict::Accepted => {
+            let verdict = Verdict::Accepted;
+            let bytes = file(n, t, rates);
+            Writing {
+                verdict,
+                length: HEAD + 2 * rates.len(),
+                bytes,
+            }
+        }
+        Verdict::Refused(refusal) => no_file(refusal),
     }
 }

@@ -1,6 +1,5 @@
 -- The forms of the request and each of its rules broken once, computed by the definition; the order of the refusals.
 use Prim.Native.Nat.{ℕ}
-use Prim.Native.Char.{code}
 use Prim.Native.String.{String}
 use native.Mathlib.Omega.{arith}
 use mathlib.Core.Option.{Option, none, some}
@@ -17,11 +16,7 @@ use Rattle.plantext.specs.Grammar.{Text}
 use Rattle.plantext.specs.Values.{skip, digitsFrom, number, field, series, ends, valuesOf}
 use Rattle.plantext.specs.Read.{verdictOf, readTextOf}
 use Rattle.plantext.proofs.TextLaws.{same-rules}
-
--- the bytes of a text in ASCII
-abbrev ascii : String → List ℕ
-ascii String.[] = []
-ascii (String._∷_ c text) = code c ∷ ascii text
+use Rattle.plantext.proofs.Ascii.{ascii}
 
 -- the values of a text for two ports
 abbrev values : String → Option (List ℕ)

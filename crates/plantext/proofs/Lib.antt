@@ -5,4 +5,5 @@ pub mod LengthLaws
 pub mod PlaceLaws
 pub mod RowLaws
 pub mod ReadLaws
+pub mod Ascii
 pub mod Examples

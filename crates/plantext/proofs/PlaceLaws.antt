@@ -20,10 +20,10 @@ use Rattle.plantext.proofs.NumberLaws.{none-taken}
 
 -- What is left of a text from a place on.
 module _ (text : List ℕ) (at : ℕ) where
-  left-none : length text ≤ at → drop at text ≡ []
+  pub left-none : length text ≤ at → drop at text ≡ []
   left-none h = drop-of-length-le text {i = at} h
 
-  left-some : at < length text → drop at text ≡ getD text at 0 ∷ drop (at + 1) text
+  pub left-some : at < length text → drop at text ≡ getD text at 0 ∷ drop (at + 1) text
   left-some h = drop-cons text at 0 h ∙ ap (λ (p : ℕ). getD text at 0 ∷ drop p text) (sym (add-one at))
 
   pub skip-past : (byte : ℕ) → length text ≤ at → skip (byte ∷ []) (drop at text) ≡ nothing

@@ -64,6 +64,11 @@ verdict-order n t text rates =
     let inside = not-false _ hn in
     sums-decide n t (valuesIn n text) inside (not-false _ ht) (values-counted n text (ports-range n inside .0) (not-false _ h))
 
+-- N is looked at first
+pub ports-decide : (n t : ℕ) (text rates : List ℕ) → portsInRange n ≡ false → readTextOf n t text rates ≡ outcome (Refused PortsOutOfRange) rates
+unfolding readTextOf verdictOf
+ports-decide n t text rates e = rw e refl
+
 -- what an accepted call wrote: the values of the text, which are an accepted plan
 pub record Read (n t : ℕ) (text list : List ℕ) : Type 0 where
   pub values : valuesOf n text ≡ some list

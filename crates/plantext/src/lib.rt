@@ -10,14 +10,19 @@ use crate::records::read_values;
 use plan::acceptance::accept;
 use plan::lists::copy;
 use plan::range::MOST_FLOWS;
+use plan::range::MOST_PORTS;
 use plan::range::frame_in_range;
 use plan::range::is_square;
 use plan::range::ports_in_range;
 use refusal::Refusal;
 use refusal::Verdict;
 
+pub mod digit;
 mod records;
 mod scan;
+
+// The bytes of the longest text: quoted fields of five digits, commas, and CR LF.
+pub const MOST_TEXT: usize = MOST_FLOWS * 7 + MOST_PORTS * (MOST_PORTS - 1) + MOST_PORTS * 2;
 
 // Writes the values to the list if they are an accepted plan, and answers whether they are.
 fn hand_over(n: usize, t: u32, values: &[u16], rates: &mut [u16]) -> Verdict

@@ -1,13 +1,13 @@
 // The rules of a text up to a field. Each function reads from the place `at` on, the number of a byte, and answers the place
 // behind what it took.
-ghost use mathlib.Core.Bool.{true};
 ghost use mathlib.Core.List.{[], _∷_};
 ghost use mathlib.Core.Path.{_≡_};
-ghost use Prim.Native.Nat.{_<_};
 ghost use lib.ListN.{drop};
-ghost use Rattle.plantext.specs.Bytes.{isDigit, digitOf, lineEnd};
+ghost use Rattle.plantext.specs.Bytes.{lineEnd};
 ghost use Rattle.plantext.specs.Values as values;
 ghost use Rattle.plantext.specs.Place.{placed, runAt, valueAt};
+use crate::digit::digit_of;
+use crate::digit::is_digit;
 
 // Where a rule ended; nowhere if the text doesn't keep to it.
 pub enum Place {
@@ -52,22 +52,6 @@ pub fn skip_line_end(text: &[u8], at: usize) -> Place
         return Place::Nowhere;
     };
     skip(text, next, b'\n')
-}
-
-fn is_digit(byte: u8) -> bool
-    ensures { λ r. ⌜ r ≡ isDigit byte ⌝ }
-{
-    if byte < b'0' {
-        return false;
-    }
-    byte <= b'9'
-}
-
-fn digit_of(byte: u8) -> u32
-    requires { ⌜ isDigit byte ≡ true ⌝ }
-    ensures { λ r. ⌜ (r ≡ digitOf byte) × (r < 10) ⌝ }
-{
-    (byte - b'0') as u32
 }
 
 // As many digits as there are, five at most.

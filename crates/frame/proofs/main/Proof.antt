@@ -3,7 +3,7 @@ use Prim.Native.Nat.{_≤_}
 use mathlib.Core.Path.{refl, sym, subst}
 use lib.ListN.{length}
 use lib.Seq.{length-take-le}
-use Rattle.frame.specs.Input.{ReadWithin}
+use Rattle.console.specs.Input.{ReadWithin}
 use Rattle.frame.proofs.main.Statement.{statement}
 use Rattle.frame.proofs.main.Tie as tie
 
@@ -11,8 +11,11 @@ use Rattle.frame.proofs.main.Tie as tie
 within : (c : tie.After-len) → c .len .given .0 .0 ≤ length (c .before .before .before .read-input .last .0)
 within c = let r = c .before .before .before .read-input in subst (ReadWithin (r .last .0)) (c .len .given .1) (r .ensures)
 
+input-room-requires : tie.Need-input-room-requires
+input-room-requires c κs = tt
+
 slice-aggregate-read-input : tie.Need-slice-aggregate-read-input
-slice-aggregate-read-input c = refl
+slice-aggregate-read-input c = sym (c .before .input-room .ensures)
 
 read-input-requires : tie.Need-read-input-requires
 read-input-requires c κs = search needs
@@ -66,6 +69,7 @@ pub main-spec : {M : Type 1} → statement M
 main-spec =
     tie.close
     (tie.spec
+    input-room-requires
     slice-aggregate-read-input
     read-input-requires
     enum-known-len

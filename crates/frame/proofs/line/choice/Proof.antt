@@ -5,7 +5,7 @@ use native.Mathlib.Omega.{arith}
 use lib.ListN.{length}
 use Rattle.fabric.specs.declared.flow.Answer.{Answer}
 use Rattle.frame.specs.Printout.{choiceOf}
-use Rattle.frame.proofs.TextLaws.{written-as}
+use Rattle.console.proofs.TextLaws.{written-as}
 use Rattle.frame.proofs.line.choice.Statement.{statement}
 use Rattle.frame.proofs.line.choice.Tie as tie
 

@@ -3,9 +3,11 @@ use Prim.Native.Nat.{_-_, _≤_}
 use mathlib.Core.Path.{_≡_, refl, ap}
 use native.Mathlib.Omega.{arith}
 use lib.ListN.{length}
-use Rattle.frame.specs.Text.{textBelow, Written}
+use Rattle.console.specs.Text.{Written}
+use Rattle.frame.specs.Text.{textBelow}
 use Rattle.frame.specs.Printout.{sideChoicesOf}
-use Rattle.frame.proofs.TextLaws.{nothing-written, written-as, written-on, below-next, below-room}
+use Rattle.console.proofs.TextLaws.{nothing-written, written-as, written-on}
+use Rattle.frame.proofs.TextLaws.{below-next, below-room}
 use Rattle.frame.proofs.line.choices.Statement.{statement}
 use Rattle.frame.proofs.line.choices.Tie as tie
 

@@ -1,5 +1,5 @@
 use borrow.Author.Needs.{needs}
-use Rattle.frame.proofs.TextLaws.{written-on}
+use Rattle.console.proofs.TextLaws.{written-on}
 use Rattle.frame.proofs.line.chosen.Statement.{statement}
 use Rattle.frame.proofs.line.chosen.Tie as tie
 

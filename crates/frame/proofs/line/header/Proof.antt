@@ -3,7 +3,7 @@ use Prim.Native.Nat.{_+_, _≤_}
 use native.Mathlib.Omega.{arith}
 use lib.ListN.{length, length-append}
 use Rattle.frame.specs.Printout.{inputName, outputName, namesOf, headerOf}
-use Rattle.frame.proofs.TextLaws.{written-on}
+use Rattle.console.proofs.TextLaws.{written-on}
 use Rattle.frame.proofs.line.header.Statement.{statement}
 use Rattle.frame.proofs.line.header.Tie as tie
 

@@ -4,9 +4,11 @@ use mathlib.Core.List.{List, _++_}
 use mathlib.Core.Path.{_≡_, refl, ap}
 use native.Mathlib.Omega.{arith}
 use lib.ListN.{length, length-append}
-use Rattle.frame.specs.Text.{decimalOf, textBelow, HasRoom, Written}
+use Rattle.console.specs.Text.{decimalOf, HasRoom, Written}
+use Rattle.frame.specs.Text.{textBelow}
 use Rattle.frame.specs.Printout.{namesOf}
-use Rattle.frame.proofs.TextLaws.{nothing-written, written-as, written-on, below-next, below-room}
+use Rattle.console.proofs.TextLaws.{nothing-written, written-as, written-on}
+use Rattle.frame.proofs.TextLaws.{below-next, below-room}
 use Rattle.frame.proofs.line.names.Statement.{statement}
 use Rattle.frame.proofs.line.names.Tie as tie
 

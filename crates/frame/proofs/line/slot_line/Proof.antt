@@ -2,9 +2,9 @@ use borrow.Author.Needs.{needs}
 use Prim.Native.Nat.{_+_, _≤_}
 use native.Mathlib.Omega.{arith}
 use lib.ListN.{length, length-append}
-use Rattle.frame.specs.Text.{decimalOf}
+use Rattle.console.specs.Text.{decimalOf}
 use Rattle.frame.specs.Printout.{sideChoicesOf, slotLineOf}
-use Rattle.frame.proofs.TextLaws.{written-on}
+use Rattle.console.proofs.TextLaws.{written-on}
 use Rattle.frame.proofs.line.slot_line.Statement.{statement}
 use Rattle.frame.proofs.line.slot_line.Tie as tie
 

@@ -7,10 +7,12 @@ use lib.ListN.{take, replicate}
 use lib.Seq.{length-take-le}
 use Rattle.plan.specs.Range.{mostFlows}
 use Rattle.plan.proofs.LineLaws.{square-small}
+use Rattle.planfile.proofs.LayoutLaws.{zeros-taken}
 use Rattle.planpair.proofs.OwnedLaws.{rates-cover, rates-square}
-use Rattle.frame.specs.Printout.{headerOf, refusalLineOf, slotLinesOf, framePrintoutOf}
-use Rattle.frame.proofs.TextLaws.{room-as, room-first, room-next, written-as, written-on}
-use Rattle.frame.proofs.PrintoutLaws.{Decided, by-start, zeros-taken}
+use Rattle.console.specs.Refused.{refusalLineOf}
+use Rattle.frame.specs.Printout.{headerOf, slotLinesOf, framePrintoutOf}
+use Rattle.console.proofs.TextLaws.{room-as, room-first, room-next, written-as, written-on}
+use Rattle.frame.proofs.PrintoutLaws.{Decided, by-start}
 use Rattle.frame.proofs.printout.frame_printout.Statement.{statement}
 use Rattle.frame.proofs.printout.frame_printout.Tie as tie
 

@@ -1,7 +1,8 @@
 use borrow.Author.Needs.{needs}
 use mathlib.Core.Path.{sym}
-use Rattle.frame.specs.Printout.{refusalLineOf, framePrintoutOf, printoutOf}
-use Rattle.frame.proofs.TextLaws.{room-as, written-as}
+use Rattle.console.specs.Refused.{refusalLineOf}
+use Rattle.frame.specs.Printout.{framePrintoutOf, printoutOf}
+use Rattle.console.proofs.TextLaws.{room-as, written-as}
 use Rattle.frame.proofs.PrintoutLaws.{Decided, by-reading, few-ports}
 use Rattle.frame.proofs.RoomLaws.{printout-room, prints}
 use Rattle.frame.proofs.printout.printout.Statement.{statement}

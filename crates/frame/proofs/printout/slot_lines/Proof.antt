@@ -4,9 +4,10 @@ use mathlib.Core.List.{List, _++_}
 use mathlib.Core.Path.{_≡_, refl}
 use native.Mathlib.Omega.{arith}
 use lib.ListN.{length}
-use Rattle.frame.specs.Text.{HasRoom}
-use Rattle.frame.specs.Printout.{slotLineOf, refusalLineOf, slotLinesOf}
-use Rattle.frame.proofs.TextLaws.{room-as, room-first, nothing-written, Begun, begun-start, begun-next, begun-last, begun-room}
+use Rattle.console.specs.Text.{HasRoom}
+use Rattle.console.specs.Refused.{refusalLineOf}
+use Rattle.frame.specs.Printout.{slotLineOf, slotLinesOf}
+use Rattle.console.proofs.TextLaws.{room-as, room-first, nothing-written, Begun, begun-start, begun-next, begun-last, begun-room}
 use Rattle.frame.proofs.PrintoutLaws.{Decided, lines-start, lines-end, by-step}
 use Rattle.frame.proofs.printout.slot_lines.Statement.{statement}
 use Rattle.frame.proofs.printout.slot_lines.Tie as tie

@@ -16,13 +16,6 @@ accept-requires c κs = search needs
 enum-told : tie.Need-enum-told
 enum-told c = search needs
 
-enum-told-2 : tie.Need-enum-told-2
-enum-told-2 c = search needs
-
-returns : tie.Need-returns
-unfolding writeOf writingOf
-returns c = rw (sym (c .before .before .accept .ensures), c .enum-told2 .given .1) refl
-
 -- an accepted plan's numbers fit the file's
 plan : (c : tie.After-enum-told) → let a = c .before .before .before .before .args in IsPlan (a .n) (a .t) (now (a .rates))
 plan c = let a = c .before .before .before .before .args in accepted (a .n) (a .t) (now (a .rates)) (sym (c .before .before .accept .ensures) ∙ c .enum-told .given .1)
@@ -30,19 +23,38 @@ plan c = let a = c .before .before .before .before .args in accepted (a .n) (a .
 file-requires : tie.Need-file-requires
 file-requires c κs = let p = plan c in (omega arith, omega arith, omega (arith, square-small _ (p .few-ports)))
 
-mul-t8 : tie.Need-mul-t8
-mul-t8 c = search needs
+mul-t10 : tie.Need-mul-t10
+mul-t10 c = search needs
 
-add-t9 : tie.Need-add-t9
-add-t9 c = search needs
+add-t11 : tie.Need-add-t11
+add-t11 c = search needs
+
+enum-known-refusal : tie.Need-enum-known-refusal
+enum-known-refusal c = search needs
+
+no-file-requires : tie.Need-no-file-requires
+no-file-requires c κs = search needs
+
+returns : tie.Need-returns
+unfolding writeOf writingOf
+returns c =
+    let a = c .before .before .before .before .before .args in
+    rw (sym (c .before .before .before .accept .ensures), c .before .enum-told .given .1, c .file .ensures, file-length (a .n) (a .t) (now (a .rates))) refl
 
 returns-2 : tie.Need-returns-2
 unfolding writeOf writingOf
-returns-2 c =
-    let a = c .before .before .before .before .before .args in
-    rw (sym (c .before .before .before .accept .ensures), c .before .enum-told .given .1, c .file .ensures, file-length (a .n) (a .t) (now (a .rates))) refl
+returns-2 c = rw (sym (c .before .before .before .before .accept .ensures), c .before .before .refusal .given .1) (c .no-file .ensures)
 
 pub write-spec : {M : Type 1} → statement M
 write-spec =
     tie.close
-    (tie.spec accept-requires enum-told enum-told-2 returns file-requires mul-t8 add-t9 returns-2)
+    (tie.spec
+    accept-requires
+    enum-told
+    file-requires
+    mul-t10
+    add-t11
+    enum-known-refusal
+    no-file-requires
+    returns
+    returns-2)

@@ -1,7 +1,7 @@
 use borrow.Author.Tests.{lt-leb, le-leb}
 use Rattle.plantext.specs.Bytes.{isDigit}
-use Rattle.plantext.proofs.scan.is_digit.Statement.{statement}
-use Rattle.plantext.proofs.scan.is_digit.Tie as tie
+use Rattle.plantext.proofs.digit.is_digit.Statement.{statement}
+use Rattle.plantext.proofs.digit.is_digit.Tie as tie
 
 returns : tie.Need-returns
 unfolding isDigit

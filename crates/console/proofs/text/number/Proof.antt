@@ -2,11 +2,11 @@ use borrow.Author.Needs.{needs}
 use mathlib.Core.Path.{_≡_, ap, _∙_}
 use native.Mathlib.Omega.{arith}
 use lib.ListN.{length, take}
-use Rattle.frame.specs.Text.{decimalOf}
-use Rattle.frame.proofs.DigitLaws.{digits-decimal}
-use Rattle.frame.proofs.TextLaws.{written-as}
-use Rattle.frame.proofs.line.number.Statement.{statement}
-use Rattle.frame.proofs.line.number.Tie as tie
+use Rattle.console.specs.Text.{decimalOf}
+use Rattle.console.proofs.DigitLaws.{digits-decimal}
+use Rattle.console.proofs.TextLaws.{written-as}
+use Rattle.console.proofs.text.number.Statement.{statement}
+use Rattle.console.proofs.text.number.Tie as tie
 
 spelled : (c : tie.After-decimal) → take (c .decimal .result) (c .decimal .last .1 .0) ≡ decimalOf (c .before .before .before .args .value)
 spelled c =

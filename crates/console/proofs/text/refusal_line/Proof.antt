@@ -4,11 +4,11 @@ use mathlib.Core.Path.{_≡_, ap}
 use native.Mathlib.Omega.{arith}
 use lib.ListN.{length, length-append}
 use Rattle.refusal.specs.Number.{verdictNumberOf}
-use Rattle.frame.specs.Text.{decimalOf}
-use Rattle.frame.specs.Printout.{refusalLineOf}
-use Rattle.frame.proofs.TextLaws.{written-as, written-on}
-use Rattle.frame.proofs.line.refusal_line.Statement.{statement}
-use Rattle.frame.proofs.line.refusal_line.Tie as tie
+use Rattle.console.specs.Text.{decimalOf}
+use Rattle.console.specs.Refused.{refusalLineOf}
+use Rattle.console.proofs.TextLaws.{written-as, written-on}
+use Rattle.console.proofs.text.refusal_line.Statement.{statement}
+use Rattle.console.proofs.text.refusal_line.Tie as tie
 
 -- the word, the number and the line's end
 room : (c : tie.Start) → c .args .at + (8 + length (decimalOf (verdictNumberOf (c .args .verdict))) + 1) ≤ length (c .args .out .now)

@@ -2,14 +2,14 @@ use borrow.Author.Needs.{needs}
 use Prim.Native.Nat.{_-_, _≤_}
 use mathlib.Core.Path.{_≡_}
 use lib.ListN.{length}
-use Rattle.frame.proofs.read_input.Statement.{statement}
-use Rattle.frame.proofs.read_input.Tie as tie
+use Rattle.console.proofs.input.read_input.Statement.{statement}
+use Rattle.console.proofs.input.read_input.Tie as tie
 
 abbrev Inv-loop : tie.InvT-loop
-Inv-loop file₀ len₀ file len = (len ≤ length file) × (length file ≡ length file₀)
+Inv-loop buffer₀ len₀ buffer len = (len ≤ length buffer) × (length buffer ≡ length buffer₀)
 
 abbrev μ-loop : tie.MeasureT-loop
-μ-loop file₀ len₀ file len = length file - len
+μ-loop buffer₀ len₀ buffer len = length buffer - len
 
 loop-holds : tie.Need-loop-holds Inv-loop μ-loop
 loop-holds c = search needs

@@ -1,8 +1,8 @@
 use borrow.Author.Needs.{needs}
 use native.Mathlib.Omega.{arith}
-use Rattle.frame.proofs.TextLaws.{copied}
-use Rattle.frame.proofs.line.put.Statement.{statement}
-use Rattle.frame.proofs.line.put.Tie as tie
+use Rattle.console.proofs.TextLaws.{copied}
+use Rattle.console.proofs.text.put.Statement.{statement}
+use Rattle.console.proofs.text.put.Tie as tie
 
 sub-copy : tie.Need-sub-copy
 sub-copy c = search needs

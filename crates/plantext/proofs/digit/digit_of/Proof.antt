@@ -2,8 +2,8 @@ use borrow.Author.Needs.{needs}
 use mathlib.Core.Path.{refl}
 use native.Mathlib.Omega.{arith}
 use Rattle.plantext.proofs.NumberLaws.{byte-of-digit}
-use Rattle.plantext.proofs.scan.digit_of.Statement.{statement}
-use Rattle.plantext.proofs.scan.digit_of.Tie as tie
+use Rattle.plantext.proofs.digit.digit_of.Statement.{statement}
+use Rattle.plantext.proofs.digit.digit_of.Tie as tie
 
 sub-result : tie.Need-sub-result
 sub-result c = omega (arith, byte-of-digit (c .args .byte) (c .pre) .1)

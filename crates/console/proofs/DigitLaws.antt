@@ -9,7 +9,7 @@ use lib.ListN.{length, length-append}
 use borrow.Author.Tests.{lt-ltb, le-ltb}
 use Rattle.io.specs.Digits.{Fewest, digits, glyph}
 use Rattle.plan.proofs.BelowLaws.{lt-or-le}
-use Rattle.frame.specs.Text.{digitsOf, decimalOf}
+use Rattle.console.specs.Text.{digitsOf, decimalOf}
 
 tenth : (n k : ℕ) → n < 10 ^ suc k → n / 10 < 10 ^ k
 tenth n k h = div-lt-iff-lt-mul {k = 10} {x = n} {y = 10 ^ k} (lit< tt) .1 (subst (λ (m : ℕ). n < m) (pow-suc 10 k) h)

@@ -1,0 +1,3 @@
+// What the programs share: reading standard input, and text.
+pub mod input;
+pub mod text;
