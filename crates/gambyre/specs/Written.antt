@@ -3,7 +3,7 @@ use Prim.Native.Nat.{ℕ, min}
 use mathlib.Core.List.{List}
 use lib.ListN.{length}
 use Rattle.refusal.specs.Number.{verdictNumberOf}
-use Rattle.regulator.specs.Outcome.{Outcome}
+use Rattle.refusal.specs.Outcome.{Outcome}
 use Rattle.crossbar.specs.Arrive.{Arrival}
 use Rattle.planpair.specs.Rates.{overlaid}
 use Rattle.gambyre.specs.Records.{replyRecord}
@@ -16,7 +16,7 @@ pub record Numbered : Type 0 where
 abbrev pub numbered : ℕ → List ℕ → Numbered
 numbered number list = record { number = number; list = list }
 
--- what scale and boost answer and write
+-- what scale, boost and the text's reader answer and write
 abbrev pub outcomeRecord : Outcome → Numbered
 outcomeRecord o = numbered (verdictNumberOf (o .verdict)) (o .list)
 

@@ -1,4 +1,4 @@
-// Plans: acceptance, the desk view, the regulator and the plan file.
+// Plans: acceptance, the desk view, the regulator, the plan file and the plan's text.
 ghost use mathlib.Core.Path.{_≡_};
 ghost use Prim.Native.Nat.{min};
 ghost use Rattle.refusal.specs.Number.{verdictNumberOf};
@@ -8,6 +8,7 @@ ghost use Rattle.plan.specs.Flag.{isSet};
 ghost use Rattle.regulator.specs.Scale.{scaleOf};
 ghost use Rattle.regulator.specs.Boost.{boostOf};
 ghost use Rattle.planfile.specs.Read.{readOf};
+ghost use Rattle.plantext.specs.Read.{readTextOf};
 ghost use Rattle.gambyre.specs.Records.{readingRecord};
 ghost use Rattle.gambyre.specs.Written.{numbered, outcomeRecord, viewRecord};
 use crate::records::ReadingRecord;
@@ -16,6 +17,7 @@ use crate::records::verdict_number;
 use plan::acceptance::accept;
 use plan::desk::desk_view;
 use planfile::read;
+use plantext::read_text;
 use regulator::boost::boost;
 use regulator::scale::scale;
 
@@ -76,4 +78,11 @@ pub extern "C" fn gambyre_read(bytes: &[u8]) -> ReadingRecord
     ensures { λ r. ⌜ r ≡ readingRecord (readOf (now (bytes .entry))) ⌝ }
 {
     reading_record(read(bytes))
+}
+
+#[no_mangle]
+pub extern "C" fn gambyre_read_text(n: usize, t: u32, text: &[u8], rates: &mut [u16]) -> u32
+    ensures { λ r. ⌜ numbered r (now (rates .exit)) ≡ outcomeRecord (readTextOf n t (now (text .entry)) (now (rates .entry))) ⌝ }
+{
+    verdict_number(read_text(n, t, text, rates))
 }

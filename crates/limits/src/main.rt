@@ -1,9 +1,10 @@
 // The limits of the switch, tried from both sides: case C11 of the scope, then the small example of each row of its
-// table "What is sent back" beside a neighbour that is accepted.
+// table "What is sent back" beside a neighbour that is accepted, then texts beside those that keep to the rules.
 use crate::plans::file;
 use crate::plans::frame;
 use crate::plans::plan;
 use crate::plans::ports;
+use crate::plans::text;
 use crate::switches::arrivals;
 use crate::switches::crosspoint;
 use crate::switches::depth;
@@ -62,9 +63,23 @@ fn file_rows() {
     file(b"empty file", b"");
 }
 
+// Number 16 of the request for texts, after 3 and before 4.
+fn text_rows() {
+    text(b"field 00001", b"00001\r\n");
+    text(b"field 000001", b"000001\r\n");
+    text(b"field 65535", b"65535\r\n");
+    text(b"field 65536", b"65536\r\n");
+    text(b"field in quotes", b"\"1\"\r\n");
+    text(b"field in one quote", b"\"1\r\n");
+    text(b"record with no line end", b"1");
+    text(b"record with LF alone", b"1\n");
+    text(b"empty text", b"");
+}
+
 fn main() {
     case_11();
     plan_rows();
     switch_rows();
     file_rows();
+    text_rows();
 }

@@ -1,8 +1,9 @@
-// Plans, by acceptance and from a file.
+// Plans, by acceptance, from a file and from a text.
 use crate::report::report;
 use crate::report::report_at;
 use plan::acceptance::accept;
 use planfile::read;
+use plantext::read_text;
 
 pub fn plan(what: &[u8], n: usize, t: u32, rates: &[u16]) {
     report(what, accept(n, t, rates));
@@ -20,4 +21,9 @@ pub fn file(what: &[u8], bytes: &[u8]) {
     let reading = read(bytes);
     let verdict = reading.verdict;
     report(what, verdict);
+}
+
+// A text for one port.
+pub fn text(what: &[u8], text: &[u8]) {
+    report(what, read_text(1, 4096, text, &mut [0; 1]));
 }
