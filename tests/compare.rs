@@ -64,10 +64,10 @@ fn main() -> ExitCode {
         println!("never reached: {}", missing.join(", "));
         return ExitCode::FAILURE;
     }
-    let Tally { slots, calls, runs, states, inputs, .. } = tally;
+    let Tally { slots, calls, runs, states, inputs, texts, .. } = tally;
     let seconds = begun.elapsed().as_secs();
     print!("no difference: {slots} slots and {calls} calls in {runs} runs, {states} calls on hand-made states, ");
-    println!("{inputs} inputs of operations; seed {seed}, {seconds} s");
+    println!("{inputs} inputs of operations, {texts} of them texts; seed {seed}, {seconds} s");
     ExitCode::SUCCESS
 }
 
