@@ -4,7 +4,7 @@ use super::plan::{check_length, check_shape, check_sums};
 use super::refusal::Refusal;
 use std::str::from_utf8;
 
-pub const MOST_DIGITS: usize = 5;
+const MOST_DIGITS: usize = 5;
 
 pub fn read(ports: usize, frame: u32, text: &[u8], rates: &mut [u16]) -> Result<(), Refusal> {
     check_shape(ports, frame)?;
