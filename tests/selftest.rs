@@ -13,9 +13,11 @@ use check::random::Random;
 use check::share::Share;
 use check::tally::Tally;
 use check::texts::faults::FAULTS;
+use check::texts::SOUND;
 use check::{inputs, runs, states};
 use model::printout::printout;
 use operations::{Model, Operations};
+use std::collections::BTreeSet;
 
 #[test]
 fn cases_of_the_scope() {
@@ -79,9 +81,11 @@ fn texts_that_break_a_rule() {
 
 #[test]
 fn what_was_never_reached_is_named() {
-    let missing = Tally::default().report();
-    assert!(missing.iter().any(|name| name == "16 text breaks a rule"));
-    assert!(FAULTS.iter().all(|(fault, _, _)| missing.iter().any(|name| name == fault)));
+    let missing: BTreeSet<String> = Tally::default().report().into_iter().collect();
+    assert!(missing.contains("16 text breaks a rule"));
+    assert!(FAULTS.iter().all(|(fault, _, _)| missing.contains(*fault)));
+    let names: BTreeSet<&str> = FAULTS.iter().map(|fault| fault.0).chain(SOUND.iter().map(|sound| sound.0)).collect();
+    assert_eq!(names.len(), FAULTS.len() + SOUND.len(), "one name for two kinds of text");
 }
 
 #[test]

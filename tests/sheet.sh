@@ -1,12 +1,12 @@
 #!/usr/bin/env bash
-# Runs the program `sheet` on every text of examples/, which are of 3 boards and 15 slots, on the longest text and on longer ones,
-# with all kinds of arguments, and on inputs and outputs that fail, and compares what it writes, byte by byte.
+# Runs the program `sheet` on every text of examples/, all of them of 3 boards and 15 slots, on the longest text and on longer
+# ones, with right and wrong arguments, and on inputs and outputs that fail, and compares what it writes, byte by byte.
 # Usage: tests/sheet.sh [PROGRAM], by default target/bin/sheet, which 'rt check sheet' builds.
 set -euo pipefail
 cd "$(dirname "$0")/.."
 . tests/programs.sh
 program=${1:-target/bin/sheet}
-out=target/sheet
+out=target/texts
 
 # runs NAME WRITTEN SAID ARGUMENT..: of the text on standard input the program writes the first file, and says the second on
 # standard error.
@@ -96,4 +96,4 @@ failures "$text" "$program" 3 15
 refusal=$("$program" 3 15 2>&1 <examples/refused/lf_alone.csv >&-)
 [ "$refusal" = "refused 16" ] || fail "a refusal and a closed output: '$refusal' on standard error"
 
-echo "tests/sheet.sh: ${#texts[@]} example texts, the longest text and longer ones, and the arguments as expected, and failures said"
+echo "tests/sheet.sh: ${#texts[@]} example texts, longest text and arguments answered as expected, and failures said"
