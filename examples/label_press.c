@@ -1,7 +1,7 @@
 /*
- * One frame of a press with three boards and three heads, by nothing but gambyre.h and libgambyre.a. It follows
- * flow (2, 1) of the plan below, which has 3 of the frame's 15 slots: what its board and its head do, slot by slot, and
- * how many cells stand at its crosspoint.
+ * One frame of a press with three boards and three heads, by nothing but gambyre.h and libgambyre.a. It reads the plan
+ * below and follows its flow (2, 1), which has 3 of the frame's 15 slots: what its board and its head do, slot by slot,
+ * and how many cells stand at its crosspoint.
  *
  *     rt staticlib gambyre
  *     gcc -std=c99 -Wall -Wextra -O2 -I include examples/label_press.c target/staticlib/libgambyre.a -o target/label_press
@@ -16,11 +16,10 @@
 
 enum { N = 3, T = 15, Q = 4, BOARD = 2, HEAD = 1, FLOW = BOARD * N + HEAD };
 
-static const uint16_t rates[N * N] = {
-    13, 2, 0,
-    1, 10, 4,
-    1, 3, 11,
-};
+/* The plan as a spreadsheet saves it: a line for each board, the slots that it has for each head. */
+static const char plan[] = "13,2,0\r\n"
+                           "1,10,4\r\n"
+                           "1,3,11\r\n";
 
 /* The host keeps both; the library keeps nothing between two calls. */
 static gambyre_switch state;
@@ -39,6 +38,9 @@ static void start(void) {
         printf("libgambyre.a is not of the header's version, %s\n", GAMBYRE_VERSION);
         exit(EXIT_FAILURE);
     }
+    uint16_t rates[N * N];
+    gambyre_verdict verdict = gambyre_read_text(N, T, (const uint8_t *)plan, sizeof plan - 1, rates, N * N);
+    expect("read_text", verdict, GAMBYRE_ACCEPTED);
     gambyre_reply reply = gambyre_start(N, T, rates, N * N, Q, store, N * N * Q);
     expect("start", reply.verdict, GAMBYRE_ACCEPTED);
     state = reply.state;

@@ -47,9 +47,9 @@
 #include <stdint.h>
 
 /* The version of this header. The archive is of the same one if gambyre_version() == GAMBYRE_VERSION_NUMBER. */
-#define GAMBYRE_VERSION "0.9.0"
+#define GAMBYRE_VERSION "0.10.0"
 #define GAMBYRE_VERSION_MAJOR 0
-#define GAMBYRE_VERSION_MINOR 9
+#define GAMBYRE_VERSION_MINOR 10
 #define GAMBYRE_VERSION_PATCH 0
 #define GAMBYRE_VERSION_NUMBER (GAMBYRE_VERSION_MAJOR * 10000 + GAMBYRE_VERSION_MINOR * 100 + GAMBYRE_VERSION_PATCH)
 
@@ -80,7 +80,8 @@ enum {
     GAMBYRE_MOST_SLOTS = 4096,  /* T, of a frame */
     GAMBYRE_MOST_DEPTH = 64,    /* Q, cells of a queue */
     GAMBYRE_MOST_STORE = 16384, /* N * N * Q, numbers of a store */
-    GAMBYRE_MOST_FILE = 520     /* 8 + 2 * N * N, bytes of a plan file */
+    GAMBYRE_MOST_FILE = 520,    /* 8 + 2 * N * N, bytes of a plan file */
+    GAMBYRE_MOST_TEXT = 2064    /* 8 * N * N + N, bytes of a plan's text */
 };
 
 /*
@@ -103,7 +104,8 @@ enum {
     VERDICT(GAMBYRE_STATE_INVALID, 12, "the state breaks a rule of gambyre_switch")                 \
     VERDICT(GAMBYRE_CROSSPOINT_FULL, 13, "the step would put a third cell in a crosspoint")         \
     VERDICT(GAMBYRE_NOT_PLAN_FILE, 14, "the file's mark is not LSP or its version is not 1")        \
-    VERDICT(GAMBYRE_FILE_LENGTH, 15, "the file has under 8 bytes, or not 8 + 2 * N * N")
+    VERDICT(GAMBYRE_FILE_LENGTH, 15, "the file has under 8 bytes, or not 8 + 2 * N * N")            \
+    VERDICT(GAMBYRE_NOT_PLAN_TEXT, 16, "the text breaks a rule of gambyre_read_text")
 
 /* What a call answers: that it was accepted, or why it was refused. */
 typedef enum gambyre_verdict GAMBYRE_32_BITS {
@@ -309,6 +311,17 @@ GAMBYRE_MUST_USE gambyre_verdict gambyre_boost(size_t n, uint32_t t, const uint1
  * Refusals, in this order: 15 (under 8 bytes), 14, 1, 2, 15, 4, 5. A refused call returns a plan that is all 0.
  */
 GAMBYRE_MUST_USE gambyre_reading gambyre_read(const uint8_t *bytes, size_t bytes_len);
+
+/*
+ * Reads the rates of a plan out of comma-separated text (RFC 4180), as a spreadsheet saves it, and writes them row by
+ * row. The text has n records, one for each board, and a record has n fields, with one comma between two. A field is
+ * one to five decimal digits, plain or wholly in double quotes, with a value up to 65535. A record ends in CR LF, which
+ * the last one may lack. There is nothing else in the text, no space either. The list of bytes may have any length; no
+ * text that keeps these rules has more than GAMBYRE_MOST_TEXT bytes.
+ * Refusals, in this order: 1, 2, 3, 16, 4, 5. A refused call writes nothing.
+ */
+GAMBYRE_MUST_USE gambyre_verdict gambyre_read_text(size_t n, uint32_t t, const uint8_t *text, size_t text_len,
+                                                   uint16_t *rates, size_t rates_len);
 
 /* ONE PORT. The switch does these for each of its ports; they refuse nothing. */
 

@@ -17,8 +17,10 @@ pub fn all<S: Operations>() {
     c11_limits::<S>();
     deadlines_round_up::<S>();
     takeover_waits_for_the_frame::<S>();
+    text_of_c3::<S>();
     refusal_examples::<S>();
     refusal_order::<S>();
+    refusal_order_of_readers::<S>();
 }
 
 const C3_FRAME: u32 = 15;
@@ -172,6 +174,13 @@ pub fn takeover_waits_for_the_frame<S: Operations>() {
     assert_eq!((state.running.rates[0], state.waiting), (3, Plan::ZERO));
 }
 
+/// The plan of C3 as planners write it.
+pub fn text_of_c3<S: Operations>() {
+    let mut rates = [9; 9];
+    assert_eq!(S::read_text(3, C3_FRAME, b"13,2,0\r\n1,\"10\",4\r\n01,00003,11\r\n", &mut rates), 0);
+    assert_eq!(rates, C3_PLAN);
+}
+
 /// The small examples of the table of refusals.
 pub fn refusal_examples<S: Operations>() {
     let store = [0; 4];
@@ -205,6 +214,7 @@ pub fn refusal_examples<S: Operations>() {
     second_version[3] = 2;
     assert_eq!(S::read(&second_version).verdict, 14);
     assert_eq!(S::read(&[]).verdict, 15);
+    assert_eq!(S::read_text(2, 4, b"1,1\n1,1\n", &mut [0; 4]), 16);
 }
 
 /// Where several conditions hold, the first in the operation's order decides.
@@ -234,13 +244,25 @@ pub fn refusal_order<S: Operations>() {
     assert_eq!(S::load(&state, 17, 0, &[]).verdict, 12);
     assert_eq!(S::arrive(&state, &mut [], 1, 1, 0).verdict, 12);
     assert_eq!(S::step(&state, &[]).verdict, 12);
+}
 
+/// The same where a file or a text is read.
+pub fn refusal_order_of_readers<S: Operations>() {
     assert_eq!(S::read(b"XSP\x01\0\0\0").verdict, 15);
     assert_eq!(S::read(b"XSP\x01\0\0\0\0").verdict, 14);
     assert_eq!(S::read(b"LSP\x01\0\0\0\0").verdict, 1);
     assert_eq!(S::read(b"LSP\x01\0\x01\0\0").verdict, 2);
     assert_eq!(S::read(b"LSP\x01\0\x01\x01\0\x02").verdict, 15);
     assert_eq!(S::read(b"LSP\x01\0\x01\x01\0\x02\0").verdict, 4);
+
+    let mut rates = [8; 4];
+    assert_eq!(S::read_text(17, 0, b"", &mut rates), 1);
+    assert_eq!(S::read_text(2, 4097, b"", &mut rates[..3]), 2);
+    assert_eq!(S::read_text(2, 1, b"", &mut rates[..3]), 3);
+    assert_eq!(S::read_text(2, 1, b"9,9\r\n9,", &mut rates), 16);
+    assert_eq!(S::read_text(2, 1, b"1,0\r\n1,1", &mut rates), 4, "a later row before an earlier column");
+    assert_eq!(S::read_text(2, 1, b"1,0\r\n1,0", &mut rates), 5);
+    assert_eq!(rates, [8; 4]);
 }
 
 fn start<S: Operations>(ports: usize, frame: u32, rates: &[u16], depth: usize, store: &[u32]) -> Switch {

@@ -14,3 +14,4 @@ pub mod script;
 pub mod share;
 pub mod states;
 pub mod tally;
+pub mod texts;

@@ -5,7 +5,8 @@
 //!
 //! Four parts: the cases of the scope on the library, every operation on edge and random inputs, hand-made
 //! states, and random runs until at least that many slots were compared. Each part ends at its first
-//! difference. The program exits with 1 if a part found one, or if a refusal or a branch was never reached.
+//! difference. The program exits with 1 if a part found one, or if a refusal, a branch or a kind of text was never
+//! reached.
 
 mod cases;
 mod check;
@@ -64,10 +65,10 @@ fn main() -> ExitCode {
         println!("never reached: {}", missing.join(", "));
         return ExitCode::FAILURE;
     }
-    let Tally { slots, calls, runs, states, inputs, .. } = tally;
+    let Tally { slots, calls, runs, states, inputs, texts, .. } = tally;
     let seconds = begun.elapsed().as_secs();
     print!("no difference: {slots} slots and {calls} calls in {runs} runs, {states} calls on hand-made states, ");
-    println!("{inputs} inputs of operations; seed {seed}, {seconds} s");
+    println!("{inputs} inputs of operations, {texts} of them texts; seed {seed}, {seconds} s");
     ExitCode::SUCCESS
 }
 

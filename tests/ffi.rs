@@ -41,6 +41,7 @@ extern "C" {
     ) -> u32;
     fn gambyre_boost(n: usize, t: u32, given: *const u16, given_len: usize, rates: *mut u16, rates_len: usize) -> u32;
     fn gambyre_read(bytes: *const u8, bytes_len: usize) -> Reading;
+    fn gambyre_read_text(n: usize, t: u32, text: *const u8, text_len: usize, rates: *mut u16, rates_len: usize) -> u32;
     fn gambyre_choose(m: Multiplexer, rates: *const u16, rates_len: usize, frame: u32, slot: u32) -> Choice;
     fn gambyre_count(m: Multiplexer, choice: Choice) -> Multiplexer;
     fn gambyre_end_frame(m: Multiplexer, n: usize) -> Multiplexer;
@@ -104,6 +105,10 @@ impl Operations for Library {
 
     fn read(bytes: &[u8]) -> Reading {
         unsafe { gambyre_read(bytes.as_ptr(), bytes.len()) }
+    }
+
+    fn read_text(ports: usize, frame: u32, text: &[u8], rates: &mut [u16]) -> u32 {
+        unsafe { gambyre_read_text(ports, frame, text.as_ptr(), text.len(), rates.as_mut_ptr(), rates.len()) }
     }
 
     fn choose(multiplexer: &Multiplexer, rates: &[u16], frame: u32, slot: u32) -> Choice {

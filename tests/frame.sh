@@ -4,12 +4,8 @@
 # builds.
 set -euo pipefail
 cd "$(dirname "$0")/.."
+. tests/programs.sh
 program=${1:-target/bin/frame}
-
-fail() {
-    echo "tests/frame.sh: $*" >&2
-    exit 1
-}
 
 # same NAME COMMAND..: of standard input the program prints what the command prints, and says nothing on standard error. The
 # dumps tell any two outputs apart.
@@ -23,35 +19,7 @@ same() {
     fail "$name: not the expected printout; above are places where it differs, further right as expected"
 }
 
-# says NAME WHAT TEXT: the text, which the program wrote on standard error, is one line that names what failed, and says why.
-says() {
-    local name=$1 what=$2 text=$3
-    [[ $text == "$what: "?* && $text != *$'\n'* ]] || fail "$name: '$text' on standard error, not a line that begins '$what: '"
-}
-
-# unread NAME COMMAND..: run by the command, which leaves it no input, the program says so and prints nothing.
-unread() {
-    local name=$1
-    shift
-    says "$name" "standard input" "$("$@" "$program" 2>&1 >/dev/null)"
-    [ -z "$("$@" "$program" 2>/dev/null)" ] || fail "$name: the program prints something"
-}
-
-without_input() {
-    "$@" <&-
-}
-
-from_directory() {
-    "$@" </
-}
-
-# A plan of 16 ports and 4,096 slots: every rate is 256, so every line is full.
-full_plan() {
-    printf 'LSP\001\000\020\000\020'
-    printf '\000\001%.0s' {1..256}
-}
-
-# Its printout: all deadlines of a round of 16 slots are the same, so each port serves the others in order.
+# The printout of full_plan: all deadlines of a round of 16 slots are the same, so each port serves the others in order.
 full_printout() {
     local slot
     printf slot
@@ -63,13 +31,6 @@ full_printout() {
         printf " $((slot % 16))%.0s" {1..32}
         printf '\n'
     done
-}
-
-# A file that comes through a pipe in two pieces.
-in_pieces() {
-    head -c 9 "$1"
-    sleep 0.1
-    tail -c +10 "$1"
 }
 
 [ -x "$program" ] || fail "no program '$program': 'rt check frame' builds it"
@@ -86,9 +47,6 @@ lines=$(full_plan | "$program" | wc -l)
 [ "$lines" -eq 4097 ] || fail "the plan with all lines full: $lines lines, not 4,097"
 same "an empty file" echo "refused 15" </dev/null
 
-says "a full output" "standard output" "$("$program" 2>&1 <examples/three_boards.lsp >/dev/full)"
-says "a closed output" "standard output" "$("$program" 2>&1 <examples/three_boards.lsp >&-)"
-unread "a closed input" without_input
-unread "a directory as input" from_directory
+failures examples/three_boards.lsp "$program"
 
 echo "tests/frame.sh: ${#plans[@]} example plans and the largest plan printed as expected, and failures said"

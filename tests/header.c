@@ -83,14 +83,14 @@ static void version(void) {
 /* Every verdict has a text of its own, and every other number the same one. */
 static void texts(void) {
     const char *other = gambyre_verdict_text((gambyre_verdict)UINT32_MAX);
-    for (uint32_t a = GAMBYRE_ACCEPTED; a <= GAMBYRE_FILE_LENGTH; a++) {
+    for (uint32_t a = GAMBYRE_ACCEPTED; a <= GAMBYRE_NOT_PLAN_TEXT; a++) {
         const char *text = gambyre_verdict_text((gambyre_verdict)a);
         same("a verdict has a text", strcmp(text, other) != 0, 1);
         for (uint32_t b = GAMBYRE_ACCEPTED; b < a; b++) {
             same("the text of one verdict", strcmp(text, gambyre_verdict_text((gambyre_verdict)b)) != 0, 1);
         }
     }
-    same("16 is no verdict", strcmp(gambyre_verdict_text((gambyre_verdict)16), other), 0);
+    same("17 is no verdict", strcmp(gambyre_verdict_text((gambyre_verdict)17), other), 0);
     same("256 is no verdict", strcmp(gambyre_verdict_text((gambyre_verdict)256), other), 0);
     same("accepted", strcmp(gambyre_verdict_text(GAMBYRE_ACCEPTED), "accepted"), 0);
 }
@@ -111,6 +111,27 @@ static void files(void) {
     same("empty file", gambyre_read(version_2, 0).verdict, GAMBYRE_FILE_LENGTH);
 }
 
+/* The verdict on a text of two ports and three slots; what is refused leaves the list as it was. */
+static void plan_text(const char *what, const char *text, gambyre_verdict expected) {
+    const uint16_t written[4] = {1, 2, 0, 1}, lent[4] = {9, 9, 9, 9};
+    uint16_t rates[4] = {9, 9, 9, 9};
+    same(what, gambyre_read_text(2, 3, (const uint8_t *)text, strlen(text), rates, 4), expected);
+    same("the list", memcmp(rates, expected == GAMBYRE_ACCEPTED ? written : lent, sizeof rates) == 0, 1);
+}
+
+static void plan_texts(void) {
+    plan_text("plain fields", "1,2\r\n0,1\r\n", GAMBYRE_ACCEPTED);
+    plan_text("quotes, zeros, no last CR LF", "\"1\",00002\r\n\"00000\",1", GAMBYRE_ACCEPTED);
+    plan_text("empty text", "", GAMBYRE_NOT_PLAN_TEXT);
+    plan_text("LF alone", "1,2\n0,1\n", GAMBYRE_NOT_PLAN_TEXT);
+    plan_text("empty line", "1,2\r\n0,1\r\n\r\n", GAMBYRE_NOT_PLAN_TEXT);
+    plan_text("semicolons", "1;2\r\n0;1\r\n", GAMBYRE_NOT_PLAN_TEXT);
+    plan_text("six digits", "1,000002\r\n0,1\r\n", GAMBYRE_NOT_PLAN_TEXT);
+    plan_text("65538", "1,65538\r\n0,1\r\n", GAMBYRE_NOT_PLAN_TEXT);
+    plan_text("65535", "1,65535\r\n0,1\r\n", GAMBYRE_ROW_ABOVE_FRAME);
+    plan_text("rows 1 2 and 0 2", "1,2\r\n0,2\r\n", GAMBYRE_COLUMN_ABOVE_FRAME);
+}
+
 /* All at their largest, and each one further. */
 static void limits(void) {
     enum { N = GAMBYRE_MOST_PORTS, T = GAMBYRE_MOST_SLOTS, Q = GAMBYRE_MOST_DEPTH };
@@ -126,6 +147,25 @@ static void limits(void) {
     same("a cell more", gambyre_start(1, 1, always, 1, Q + 1, store, Q + 1).verdict, GAMBYRE_DEPTH_OUT_OF_RANGE);
     same("the longest file", gambyre_read(file, GAMBYRE_MOST_FILE).verdict, GAMBYRE_ACCEPTED);
     same("a byte less", gambyre_read(file, GAMBYRE_MOST_FILE - 1).verdict, GAMBYRE_FILE_LENGTH);
+}
+
+/* The longest text: five digits in quotes for each flow. */
+static void longest_text(void) {
+    enum { N = GAMBYRE_MOST_PORTS, T = GAMBYRE_MOST_SLOTS };
+    char text[GAMBYRE_MOST_TEXT + 2] = "";
+    uint16_t rates[GAMBYRE_MOST_FLOWS] = {0};
+    size_t length = 0;
+    for (size_t flow = 0; flow < GAMBYRE_MOST_FLOWS; flow++) {
+        const char *end = flow % N == N - 1 ? "\r\n" : ",";
+        length += (size_t)snprintf(text + length, sizeof text - length, "\"%05d\"%s", T / N, end);
+    }
+    same("bytes of the longest text", length, GAMBYRE_MOST_TEXT);
+    same("the longest text", gambyre_read_text(N, T, (const uint8_t *)text, length, rates, GAMBYRE_MOST_FLOWS),
+         GAMBYRE_ACCEPTED);
+    same("its last rate", rates[GAMBYRE_MOST_FLOWS - 1], T / N);
+    text[length] = '0';
+    same("a byte more", gambyre_read_text(N, T, (const uint8_t *)text, length + 1, rates, GAMBYRE_MOST_FLOWS),
+         GAMBYRE_NOT_PLAN_TEXT);
 }
 
 static void starts_and_loads(void) {
@@ -245,6 +285,9 @@ static void empty_lists(void) {
     same("boost, no plan", gambyre_boost(1, 1, NULL, 0, list, 1), GAMBYRE_LIST_LENGTH);
     same("boost, no rates", gambyre_boost(1, 1, always, 1, NULL, 0), GAMBYRE_LIST_LENGTH);
     same("read, no bytes", gambyre_read(NULL, 0).verdict, GAMBYRE_FILE_LENGTH);
+    same("read_text, no text", gambyre_read_text(1, 1, NULL, 0, list, 1), GAMBYRE_NOT_PLAN_TEXT);
+    same("read_text, no rates", gambyre_read_text(1, 1, (const uint8_t *)"1", 1, NULL, 0), GAMBYRE_LIST_LENGTH);
+    same("read_text, no list", gambyre_read_text(1, 1, NULL, 0, NULL, 0), GAMBYRE_LIST_LENGTH);
     same("choose, no rates", gambyre_choose(rested, NULL, 0, 1, 0).kind, GAMBYRE_NO_FLOW);
     same("what refused calls write", list[0], 9);
 }
@@ -254,7 +297,9 @@ int main(void) {
     texts();
     plans();
     files();
+    plan_texts();
     limits();
+    longest_text();
     starts_and_loads();
     arrivals();
     hand_made_states();

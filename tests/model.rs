@@ -9,13 +9,14 @@ pub mod by_value;
 pub mod multiplexer;
 pub mod plan;
 pub mod planfile;
+pub mod plantext;
 pub mod printout;
 pub mod refusal;
 pub mod regulator;
 pub mod switch;
 
 /// The version of the interface: major × 10,000 + minor × 100 + patch.
-pub const VERSION: u32 = 900;
+pub const VERSION: u32 = 1_000;
 
 pub use multiplexer::Multiplexer;
 pub use plan::Plan;

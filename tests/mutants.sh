@@ -38,4 +38,19 @@ try "only 1 is a yes for the desk view" ../operations.rs 's/takeover != 0/takeov
 try "only 1 is the kind of a flow" ../operations.rs 's/self.kind != 0/self.kind == 1/'
 try "columns before rows" plan.rs 's/row_sum(ports, rates, input) > frame, Refusal::RowAboveFrame/column_sum(ports, rates, input) > frame, Refusal::ColumnAboveFrame/; s/column_sum(ports, rates, output) > frame, Refusal::ColumnAboveFrame/row_sum(ports, rates, output) > frame, Refusal::RowAboveFrame/'
 try "the second place is cleared too" switch.rs 's/self.cells\[0\] = 0;/self.cells = [0, 0];/'
+try "a sixth digit in a field" plantext.rs 's/usize = 5/usize = 6/'
+try "a value modulo 2^16" plantext.rs 's/digits.parse()/digits.parse::<u32>().map(|value| value as u16)/'
+try "a value above 65,535 taken for 65,535" plantext.rs 's/digits.parse()/digits.parse::<u32>().map(|value| value.min(65_535) as u16)/'
+try "a sign before the digits" plantext.rs 's/ || !digits.bytes().all(|byte| byte.is_ascii_digit())//'
+try "LF alone ends a record" plantext.rs 's/split("\\r\\n")/split("\\n").map(|record| record.strip_suffix("\\r").unwrap_or(record))/'
+try "an empty line behind the records" plantext.rs 's/text.strip_suffix("\\r\\n").unwrap_or(text)/text.trim_end_matches("\\r\\n")/'
+try "a quote that is not closed" plantext.rs "s/and_then(|rest| rest.strip_suffix('\"'))/map(|rest| rest.strip_suffix('\"').unwrap_or(rest))/"
+try "a quote that was not opened" plantext.rs "s/field.strip_prefix('\"')/Some(field.strip_prefix('\"').unwrap_or(field))/"
+try "an empty field is 0" plantext.rs 's/(1..=/(0..=/; s/digits.parse()/format!("0{digits}").parse()/'
+try "a comma behind the last field" plantext.rs 's/record.split/record.strip_suffix(",").unwrap_or(record).split/'
+try "a missing last record is 0" plantext.rs 's/fields.len() != ports/!(ports - 1..=ports).contains(\&fields.len())/; s/map(value)/map(value).chain(vec![Some(0); (ports - fields.len()) * ports])/'
+try "fields counted in all records together" plantext.rs 's/fields.iter().any(|record| record.len() != ports)/fields.concat().len() != ports * ports/'
+try "16 before 3" plantext.rs 's/^    check_length(ports, rates)?;//; s/^    check_sums/    check_length(ports, rates)?;\n&/'
+try "the list is written by a call that is refused 16" plantext.rs 's/ok_or(Refusal::NotPlanText)/ok_or_else(|| { rates[0] = 0; Refusal::NotPlanText })/'
+try "the list is written by a call that is refused 4 or 5" plantext.rs 's/^    check_sums/    rates.copy_from_slice(\&values);\n&/'
 exit $failed

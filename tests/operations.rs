@@ -3,7 +3,7 @@
 
 use crate::model::plan::{self, MOST_PORTS};
 use crate::model::refusal::number;
-use crate::model::{by_value, planfile, regulator, Multiplexer, Plan, Port, Switch, VERSION};
+use crate::model::{by_value, planfile, plantext, regulator, Multiplexer, Plan, Port, Switch, VERSION};
 
 #[derive(Clone, Copy, Debug, PartialEq, Eq)]
 #[repr(C)]
@@ -54,6 +54,7 @@ pub trait Operations {
     fn scale(ports: usize, frame: u32, demands: &[u16], rates: &mut [u16]) -> u32;
     fn boost(ports: usize, frame: u32, given: &[u16], rates: &mut [u16]) -> u32;
     fn read(bytes: &[u8]) -> Reading;
+    fn read_text(ports: usize, frame: u32, text: &[u8], rates: &mut [u16]) -> u32;
     fn choose(multiplexer: &Multiplexer, rates: &[u16], frame: u32, slot: u32) -> Choice;
     fn count(multiplexer: &Multiplexer, choice: Choice) -> Multiplexer;
     fn end_frame(multiplexer: &Multiplexer, ports: usize) -> Multiplexer;
@@ -99,6 +100,10 @@ impl Operations for Model {
     fn read(bytes: &[u8]) -> Reading {
         let outcome = planfile::read(bytes);
         Reading { verdict: number(&outcome), plan: outcome.unwrap_or(Plan::ZERO) }
+    }
+
+    fn read_text(ports: usize, frame: u32, text: &[u8], rates: &mut [u16]) -> u32 {
+        number(&plantext::read(ports, frame, text, rates))
     }
 
     fn choose(multiplexer: &Multiplexer, rates: &[u16], frame: u32, slot: u32) -> Choice {

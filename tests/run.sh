@@ -1,7 +1,7 @@
 #!/usr/bin/env bash
-# The tests beside the proofs: the program on plan files, the model's test of itself, installing the library, the header and
-# the example in C and C++, and the comparison of the proved library with the model. Usage: tests/run.sh [SLOTS [SEED]], how
-# many slots are compared, and where random numbers begin.
+# The tests beside the proofs: the programs on plan files and texts, the model's test of itself, installing the library, the
+# header and the example in C and C++, and the comparison of the proved library with the model. Usage: tests/run.sh [SLOTS
+# [SEED]], how many slots are compared, and where random numbers begin.
 set -euo pipefail
 cd "$(dirname "$0")/.."
 slots=${1:-10000000}
@@ -27,6 +27,9 @@ programs() {
     bash tests/frame.sh
     rustc --edition 2021 -O tests/plan_files.rs -o target/plan_files
     target/plan_files
+    bash tests/sheet.sh
+    rustc --edition 2021 -O tests/sheets.rs -o target/sheets
+    target/sheets
     rustc --edition 2021 -O --test tests/selftest.rs -o target/selftest
     target/selftest
 }
@@ -36,7 +39,7 @@ mkdir -p target
 trap 'kill "${beside:-}" 2>/dev/null || true' EXIT
 
 # Two calls of rt would write the same files.
-rt check frame >target/frame.log 2>&1 || { cat target/frame.log; exit 1; }
+rt check frame sheet >target/programs.log 2>&1 || { cat target/programs.log; exit 1; }
 beside install bash tests/install.sh
 programs
 joined

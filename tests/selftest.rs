@@ -1,6 +1,6 @@
 //! The model and the comparison put to the test by themselves, without the proved library:
-//! the cases of the scope on the model, the model by value against the model in place, and the check of
-//! shares against the words of the scope.
+//! the cases of the scope on the model, the rules of texts kept and broken, the model by value against the
+//! model in place, and the check of shares against the words of the scope.
 //!
 //!     rustc --edition 2021 -O --test tests/selftest.rs -o target/selftest && target/selftest
 
@@ -12,9 +12,12 @@ mod operations;
 use check::random::Random;
 use check::share::Share;
 use check::tally::Tally;
+use check::texts::faults::FAULTS;
+use check::texts::SOUND;
 use check::{inputs, runs, states};
 use model::printout::printout;
-use operations::Model;
+use operations::{Model, Operations};
+use std::collections::BTreeSet;
 
 #[test]
 fn cases_of_the_scope() {
@@ -26,6 +29,63 @@ fn printout_of_the_scope() {
     assert_eq!(printout(&cases::C10_FILE), cases::C10_TEXT);
     assert_eq!(printout(&[]), "refused 15\n");
     assert_eq!(printout(b"LSP\x01\0\x01\x02\0\x01\0"), "slot in0 out0\n0 0 0\n1 - -\n");
+}
+
+/// The verdict on a text of two ports and ten slots, and the list that was lent with nines.
+fn read_text(text: &str) -> (u32, [u16; 4]) {
+    let mut rates = [9; 4];
+    (Model::read_text(2, 10, text.as_bytes(), &mut rates), rates)
+}
+
+#[test]
+fn texts_that_keep_the_rules() {
+    for text in [
+        "1,2\r\n3,4\r\n",
+        "1,2\r\n3,4",
+        "\"1\",2\r\n3,\"4\"\r\n",
+        "\"1\",\"2\"\r\n\"3\",\"4\"",
+        "00001,02\r\n\"003\",\"00004\"\r\n",
+    ] {
+        assert_eq!(read_text(text), (0, [1, 2, 3, 4]), "{text:?}");
+    }
+    for (text, number) in [("65535,0\r\n0,0", 4), ("1,2\r\n3,8", 4), ("1,2\r\n\"00010\",0", 5), ("0,5\r\n0,6", 5)] {
+        assert_eq!(read_text(text), (number, [9; 4]), "{text:?}");
+    }
+}
+
+#[test]
+fn texts_that_break_a_rule() {
+    let faults: [(&str, &[&str]); 15] = [
+        ("byte", &["1,2\r\n 3,4", "1,2\r\n3,4 ", "1,2\r\n3;4", "1,2\r\n3,4\0", "1,2\r\n3,'4'", "1,2\r\n3,٤"]),
+        ("BOM", &["\u{FEFF}1,2\r\n3,4"]),
+        ("sign", &["1,2\r\n+3,4", "1,2\r\n-3,4", "1,2\r\n3,\"+4\""]),
+        ("letter", &["1,2\r\n3,x", "1,2\r\n3,4e0"]),
+        ("line end", &["1,2\n3,4", "1,2\r3,4", "1,2\n\r3,4", "1,2\r\r\n3,4", "1,2\r\n3,4\n", "1,2\r\n3,4\r"]),
+        ("quote inside", &["1,2\r\n3,1\"0", "1,2\r\n3,\"1\"0\"", "1,2\r\n3,\"1\"\"0\"", "1,2\r\n3,\"\"4\"\""]),
+        ("one quote", &["\"1,2\r\n3,4", "1,2\r\n3,4\"", "1,2\r\n3,\"4", "1,2\r\n3,\""]),
+        ("separator in quotes", &["\"1,2\"\r\n3,4", "1,\"2\r\n3\",4"]),
+        ("empty field", &["1,\r\n3,4", ",2\r\n3,4", "1,2\r\n3,", "1,2\r\n3,\"\"", ",\r\n,"]),
+        ("digits", &["000001,2\r\n3,4", "1,2\r\n3,\"000004\"", "1,2\r\n3,4294967296"]),
+        ("value", &["65536,2\r\n3,4", "1,2\r\n3,\"65540\"", "1,2\r\n3,99999"]),
+        ("empty line", &["\r\n1,2\r\n3,4", "1,2\r\n\r\n3,4", "1,2\r\n3,4\r\n\r\n", "\r\n\r\n", "\r\n"]),
+        ("comma", &["1,2,\r\n3,4", "1,2\r\n3,4,", "1,2\r\n3,4,\r\n", ",1,2\r\n3,4", "1,,2\r\n3,4", "1,2,3,4"]),
+        ("records", &["1,2", "1,2\r\n", "1,2\r\n3,4\r\n0,0", "1,2\r\n3,4\r\n0,0\r\n", ""]),
+        ("fields", &["1,2\r\n3", "1\r\n3,4", "1,2,0\r\n3,4", "1,2\r\n3,4,0", "1\r\n2,3,4", "1,2\r\n3,4\r\n0"]),
+    ];
+    for (fault, texts) in faults {
+        for text in texts {
+            assert_eq!(read_text(text), (16, [9; 4]), "{fault}: {text:?}");
+        }
+    }
+}
+
+#[test]
+fn what_was_never_reached_is_named() {
+    let missing: BTreeSet<String> = Tally::default().report().into_iter().collect();
+    assert!(missing.contains("16 text breaks a rule"));
+    assert!(FAULTS.iter().all(|(fault, _, _)| missing.contains(*fault)));
+    let names: BTreeSet<&str> = FAULTS.iter().map(|fault| fault.0).chain(SOUND.iter().map(|sound| sound.0)).collect();
+    assert_eq!(names.len(), FAULTS.len() + SOUND.len(), "one name for two kinds of text");
 }
 
 #[test]

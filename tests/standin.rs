@@ -76,6 +76,18 @@ unsafe extern "C" fn gambyre_read(bytes: *const u8, bytes_len: usize) -> Reading
 }
 
 #[no_mangle]
+unsafe extern "C" fn gambyre_read_text(
+    n: usize,
+    t: u32,
+    text: *const u8,
+    text_len: usize,
+    rates: *mut u16,
+    rates_len: usize,
+) -> u32 {
+    Model::read_text(n, t, from_raw_parts(text, text_len), from_raw_parts_mut(rates, rates_len))
+}
+
+#[no_mangle]
 unsafe extern "C" fn gambyre_choose(
     m: Multiplexer,
     rates: *const u16,

@@ -2,12 +2,14 @@
 
 mod edges;
 mod samples;
+mod texts;
 
 use super::calls::Outcome;
 use super::guarded::Guarded;
 use super::random::Random;
-use super::same::{same, same_list, same_state, same_verdict, told};
+use super::same::{same, same_list, same_state, same_verdict, told, told_text};
 use super::tally::Tally;
+use super::texts::PlanText;
 use crate::model::plan::{column_sum, row_sum};
 use crate::model::Multiplexer;
 use crate::operations::{Choice, Model, Operations};
@@ -23,6 +25,11 @@ pub fn compare<S: Operations>(rounds: usize, random: &mut Random, tally: &mut Ta
     inputs.start_edges()?;
     inputs.switch_edges()?;
     inputs.file_edges()?;
+    inputs.text_edges()?;
+    inputs.named_texts()?;
+    inputs.damaged_texts()?;
+    inputs.longest_texts()?;
+    inputs.long_texts()?;
     for _ in 0..rounds {
         inputs.random_plan()?;
         inputs.random_desk_view()?;
@@ -30,6 +37,7 @@ pub fn compare<S: Operations>(rounds: usize, random: &mut Random, tally: &mut Ta
         inputs.random_frame()?;
         inputs.random_start()?;
         inputs.random_file()?;
+        inputs.random_text()?;
     }
     Ok(())
 }
@@ -111,6 +119,41 @@ impl<S: Operations> Inputs<'_, S> {
             .and_then(|()| same("plan", &subject.plan, &model.plan))
             .map_err(|what| format!("read {bytes:02x?}: {what}"))?;
         Ok(model.verdict)
+    }
+
+    /// Answers the verdict and the lent list.
+    fn read_text(
+        &mut self,
+        ports: usize,
+        frame: u32,
+        text: &[u8],
+        out_length: usize,
+    ) -> Result<(u32, Guarded<u16>), String> {
+        let lent = Guarded::rates(self.random, out_length);
+        let (mut subject_out, mut model_out) = (lent.clone(), lent.clone());
+        let subject = S::read_text(ports, frame, text, subject_out.list_mut());
+        let model = Model::read_text(ports, frame, text, model_out.list_mut());
+        self.seen(model);
+        self.tally.texts += 1;
+        same_verdict(subject, model)
+            .and_then(|()| same_list(&subject_out, &model_out))
+            .and_then(|()| same("a refused call leaves the list", &(subject == 0 || subject_out == lent), &true))
+            .map_err(|what| {
+                format!("read_text N {ports} T {frame} text {} out {out_length}: {what}", told_text(text))
+            })?;
+        Ok((subject, subject_out))
+    }
+
+    /// A text that was made for a verdict; where that is 0, the list holds the rates that were written.
+    fn made_text(&mut self, made: &PlanText, expected: u32) -> Result<(), String> {
+        let text = made.bytes();
+        let (verdict, list) = self.read_text(made.ports, made.frame, &text, made.rates.len())?;
+        if verdict != expected || verdict == 0 && list.list() != made.rates {
+            let shape = format!("N {} T {}", made.ports, made.frame);
+            let answer = format!("verdict {verdict}, expected {expected}; the list holds {}", told(list.list()));
+            return Err(format!("read_text {shape} text {}: {answer}", told_text(&text)));
+        }
+        Ok(())
     }
 
     fn choose(&mut self, multiplexer: &Multiplexer, rates: &[u16], frame: u32, slot: u32) -> Result<Choice, String> {

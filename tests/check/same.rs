@@ -64,6 +64,12 @@ pub fn told<T: Debug>(list: &[T]) -> String {
     }
 }
 
+/// A text as it is told in a difference.
+pub fn told_text(text: &[u8]) -> String {
+    let shown = text.len().min(2_100);
+    format!("\"{}\" of {} bytes", text[..shown].escape_ascii(), text.len())
+}
+
 fn difference(name: &str, subject: &impl Debug, model: &impl Debug) -> String {
     format!("{name}: library {subject:?}, model {model:?}")
 }

@@ -1,9 +1,11 @@
 //! What a comparison has seen.
 
+use super::texts::faults::FAULTS;
+use super::texts::SOUND;
 use crate::model::Port;
 use std::collections::BTreeMap;
 
-pub const REFUSALS: [&str; 15] = [
+pub const REFUSALS: [&str; 16] = [
     "N outside 1 to 16",
     "T outside 1 to 4,096",
     "list isn't N × N long",
@@ -19,6 +21,7 @@ pub const REFUSALS: [&str; 15] = [
     "third cell",
     "mark or version",
     "file length",
+    "text breaks a rule",
 ];
 
 /// A way through the slot or an edge of a structure that a run has to reach.
@@ -69,10 +72,13 @@ pub struct Tally {
     pub calls: u64,
     pub states: u64,
     pub inputs: u64,
-    verdicts: [u64; 16],
+    pub texts: u64,
+    verdicts: [u64; REFUSALS.len() + 1],
     branches: [u64; BRANCHES.len()],
     /// How often a clause was met at its limit, and how often past it.
     clauses: BTreeMap<&'static str, [u64; 2]>,
+    /// How often a text of each name in `FAULTS` and `SOUND` got its verdict.
+    named_texts: BTreeMap<&'static str, u64>,
     /// How often `waits` held each byte of `WAITS`, and last any other one: in states that hold, and in broken ones.
     waits: [[u64; 2]; WAITS.len() + 1],
 }
@@ -104,6 +110,10 @@ impl Tally {
         self.clauses.entry(name).or_default()[usize::from(past)] += 1;
     }
 
+    pub fn named_text(&mut self, name: &'static str) {
+        *self.named_texts.entry(name).or_default() += 1;
+    }
+
     pub fn waits(&mut self, byte: u8, broken: bool) {
         let place = WAITS.iter().position(|&named| named == byte).unwrap_or(WAITS.len());
         self.waits[place][usize::from(broken)] += 1;
@@ -126,6 +136,15 @@ impl Tally {
         println!("branches in runs");
         for (name, &count) in BRANCHES.iter().zip(&self.branches) {
             line(name.to_string(), count);
+        }
+        let named = |name: &str| self.named_texts.get(name).copied().unwrap_or(0);
+        println!("texts with one fault, each refused 16");
+        for (name, _, _) in FAULTS {
+            line(name.to_string(), named(name));
+        }
+        println!("texts without a fault, each with its verdict");
+        for (name, verdict, _) in SOUND {
+            line(format!("{name}: {verdict}"), named(name));
         }
         println!("clauses of 12 and 13 in hand-made states");
         for (name, [within, past]) in &self.clauses {

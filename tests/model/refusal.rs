@@ -19,6 +19,7 @@ pub enum Refusal {
     ThirdCell,
     MarkOrVersion,
     FileLength,
+    NotPlanText,
 }
 
 /// The number of a call's outcome: 0 is accepted.

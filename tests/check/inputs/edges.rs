@@ -4,6 +4,7 @@ use super::{plan_file, Inputs};
 use crate::check::calls;
 use crate::check::guarded::Guarded;
 use crate::check::plans;
+use crate::check::texts::{PlanText, WRITINGS};
 use crate::model::plan::MOST_PORTS;
 use crate::model::{Multiplexer, Switch};
 use crate::operations::{Choice, Model, Operations};
@@ -221,6 +222,24 @@ impl<S: Operations> Inputs<'_, S> {
             let mut file = plan_file(16, 4096, &vec![0; length / 2]);
             file.resize(length.max(8), 0);
             self.read(&file)?;
+        }
+        Ok(())
+    }
+
+    /// The lists with which N and T are tried, as texts, and lists lent of the right length and of others.
+    pub fn text_edges(&mut self) -> Result<(), String> {
+        for ports in PORTS {
+            for frame in FRAMES {
+                let mut lists = self.edge_lists(ports, frame);
+                lists.retain(|list| list.len() <= 289);
+                for list in lists {
+                    let writing = self.random.pick(&WRITINGS);
+                    let text = PlanText::new(self.random, writing, ports.clamp(1, 17), frame, &list).bytes();
+                    for out_length in [ports.min(17).pow(2), list.len(), list.len() + 1, 0] {
+                        self.read_text(ports, frame, &text, out_length)?;
+                    }
+                }
+            }
         }
         Ok(())
     }

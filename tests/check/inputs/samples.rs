@@ -3,6 +3,7 @@
 use super::{plan_file, Inputs};
 use crate::check::plans;
 use crate::check::same::same;
+use crate::check::texts::{damage, PlanText, WRITINGS};
 use crate::model::plan::MOST_PORTS;
 use crate::model::Multiplexer;
 use crate::operations::Operations;
@@ -106,6 +107,20 @@ impl<S: Operations> Inputs<'_, S> {
             file[place] = self.random.next() as u8;
         }
         self.read(&file)?;
+        Ok(())
+    }
+
+    /// Whole, or damaged in up to three places.
+    pub fn random_text(&mut self) -> Result<(), String> {
+        let (ports, frame) = self.random_shape();
+        let rates = self.random_rates(ports, frame);
+        let writing = self.random.pick(&WRITINGS);
+        let mut text = PlanText::new(self.random, writing, ports, frame, &rates).bytes();
+        for _ in 0..self.random.below(4) {
+            damage::anywhere(self.random, &mut text);
+        }
+        let out_length = ports * ports + usize::from(self.random.one_in(20));
+        self.read_text(ports, frame, &text, out_length)?;
         Ok(())
     }
 }

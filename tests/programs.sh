@@ -1,0 +1,38 @@
+# What the tests of the programs share. tests/frame.sh and tests/sheet.sh read it in.
+
+fail() {
+    echo "tests/${0##*/}: $*" >&2
+    exit 1
+}
+
+# says NAME WHAT TEXT: the text, which the program wrote on standard error, is one line that names what failed, and says why.
+says() {
+    local name=$1 what=$2 text=$3
+    [[ $text == "$what: "?* && $text != *$'\n'* ]] || fail "$name: '$text' on standard error, not a line that begins '$what: '"
+}
+
+# failures FILE COMMAND..: the command says that the file's printout can't be written, and that there is nothing to read. In
+# that case it prints nothing.
+failures() {
+    local file=$1
+    shift
+    says "a full output" "standard output" "$("$@" 2>&1 <"$file" >/dev/full)"
+    says "a closed output" "standard output" "$("$@" 2>&1 <"$file" >&-)"
+    says "a closed input" "standard input" "$("$@" 2>&1 <&- >/dev/null)"
+    says "a directory as input" "standard input" "$("$@" 2>&1 </ >/dev/null)"
+    [ -z "$("$@" 2>/dev/null <&-)" ] || fail "a closed input: the program prints something"
+    [ -z "$("$@" 2>/dev/null </)" ] || fail "a directory as input: the program prints something"
+}
+
+# A file that comes through a pipe in two pieces.
+in_pieces() {
+    head -c 9 "$1"
+    sleep 0.1
+    tail -c +10 "$1"
+}
+
+# The plan file of 16 ports and 4,096 slots in which every rate is 256, so that every line is full.
+full_plan() {
+    printf 'LSP\001\000\020\000\020'
+    printf '\000\001%.0s' {1..256}
+}
