@@ -1,5 +1,6 @@
-//! What a slot, an arrival, a load and a choice cost: the proved library through its C interface, the model by value
-//! and the model in place, timed in turn in one run. For a slot also a switch that does less.
+//! What a slot, an arrival, a load, a choice and reading a text cost: the proved library through its C interface, the
+//! model by value and the model in place, timed in turn in one run. For a slot also a switch that does less, for a text
+//! a reader that goes through the bytes once.
 //!
 //! `bench/run.sh` builds and runs it. With PORTS FRAME REPEATS it times one size, each batch that many times: for a
 //! profiler.
@@ -14,11 +15,12 @@ mod tests {
     pub mod model;
     pub mod operations;
 }
+mod text;
 mod unchecked;
 mod workload;
 use tests::{ffi, model, operations};
 
-use clock::{report, report_other};
+use clock::{report, report_other, report_proved};
 use workload::{Workload, SIZES};
 
 const REPEATS: usize = 30;
@@ -41,4 +43,13 @@ fn time_all(ports: usize, frame: u32, repeats: usize) {
     report(&format!("arrival, {size}, queues half full"), calls::arrival_times(&workload, repeats));
     report(&format!("load, {size}"), calls::load_times(&workload, repeats));
     report(&format!("choice, {size}"), choice::choice_times(&workload, repeats));
+    time_text(&workload, repeats);
+}
+
+fn time_text(workload: &Workload, repeats: usize) {
+    let text = text::longest_text(workload);
+    let [proved, one_pass, model] = text::text_times(workload, &text, repeats);
+    report_proved(&format!("text, N = {}, {} bytes", workload.ports, text.len()), proved);
+    report_other("plain Rust, one pass", one_pass, proved);
+    report_other("model, which splits the text", model, proved);
 }

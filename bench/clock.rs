@@ -40,9 +40,13 @@ pub fn time(work: impl FnOnce()) -> Duration {
     begun.elapsed()
 }
 
-pub fn report(what: &str, [proved, by_value, in_place]: [f64; 3]) {
+pub fn report_proved(what: &str, proved: f64) {
     println!("{what}");
     println!("  {:<54}{proved:>9.1} ns", "proved, through C");
+}
+
+pub fn report(what: &str, [proved, by_value, in_place]: [f64; 3]) {
+    report_proved(what, proved);
     report_other("model by value", by_value, proved);
     report_other("model in place", in_place, proved);
 }

@@ -7,7 +7,7 @@ use lib.ListN.{length, take, drop, length-append, length-drop, drop-of-length-le
 use lib.Seq.{take-all, take-length, take-append-seam, take-append-add, drop-append-seam, drop-append-add, drop-drop, length-take-le}
 use Rattle.refusal.specs.Number.{verdictNumberOf}
 use Rattle.refusal.specs.declared.Verdict.{Verdict}
-use Rattle.console.specs.Text.{decimalOf, HasRoom, Written}
+use Rattle.console.specs.Text.{HasRoom, Written}
 use Rattle.console.specs.Refused.{refusalLineOf, refusalRoom}
 use Rattle.console.proofs.DigitLaws.{digits-within}
 

@@ -4,15 +4,13 @@ use mathlib.Core.List.{List, [], _++_}
 use mathlib.Core.Path.{_≡_, refl, ap, sym, subst, _∙_}
 use native.Mathlib.Numerals.{add-one}
 use native.Mathlib.Omega.{arith}
-use lib.ListN.{take, replicate, length-replicate, replicate-append-replicate}
-use lib.Seq.{take-at}
+use lib.ListN.{take, replicate}
 use Rattle.refusal.specs.Chain.{ifAccepted}
 use Rattle.refusal.specs.declared.Refusal.{Refusal}
 use Rattle.refusal.specs.declared.Verdict.{Verdict}
 use Rattle.refusal.specs.declared.Verdict.the-variants.{Accepted, Refused}
-use Rattle.plan.specs.Range.{mostPorts, mostFlows}
+use Rattle.plan.specs.Range.{mostPorts}
 use Rattle.plan.specs.declared.Plan.{Plan}
-use Rattle.plan.proofs.LineLaws.{square-small}
 use Rattle.planfile.specs.Read.{readOf}
 use Rattle.planfile.specs.declared.Reading.{Reading}
 use Rattle.planfile.proofs.CutLaws.{read-cut}

@@ -22,7 +22,6 @@ use Rattle.crossbar.specs.Step.{stepOf}
 use Rattle.crossbar.specs.declared.state.Switch.{Switch}
 use Rattle.crossbar.proofs.AnswerLaws.{step-moves-name, step-sends-name}
 use Rattle.console.specs.Text.{decimalOf, HasRoom, Written}
-use Rattle.console.specs.Refused.{refusalLineOf}
 use Rattle.frame.specs.Printout.{inputName, outputName, namesOf, headerOf, choiceOf, sideChoicesOf, slotLineOf, slotLinesOf, framePrintoutOf, printoutOf, headerRoom, slotLineRoom, printoutRoom, Prints}
 use Rattle.console.proofs.DigitLaws.{digits-below}
 use Rattle.console.proofs.TextLaws.{refusal-short}

@@ -11,7 +11,6 @@ use borrow.Author.Tests.{eqb-true, not-false}
 use Rattle.refusal.specs.Chain.{refuseIf}
 use Rattle.refusal.specs.declared.Refusal.{Refusal}
 use Rattle.refusal.specs.declared.Refusal.the-variants.{PortsOutOfRange, FrameOutOfRange, RowAboveFrame, ColumnAboveFrame, NotPlanFile, FileLength}
-use Rattle.refusal.specs.declared.Verdict.{Verdict}
 use Rattle.refusal.specs.declared.Verdict.the-variants.{Accepted, Refused}
 use Rattle.refusal.proofs.ChainLaws.{refuse-passed, refuse-ext}
 use Rattle.plan.specs.Lines.{rowSum, columnSum}

@@ -7,15 +7,15 @@ use mathlib.Core.List.{List, [], _∷_, _++_, append-assoc, append-nil}
 use mathlib.Core.Logic.{⊎-elim}
 use native.Mathlib.Numerals.{add-one}
 use native.Mathlib.Omega.{arith}
-use lib.Dec.{ltb, eqb}
-use lib.ListN.{length, getD, set, take, drop, length-append, List·getD-append}
+use lib.Dec.{eqb}
+use lib.ListN.{length, getD, set, take, length-append, List·getD-append}
 use lib.Seq.{take-suc, getD-append-add, getD-at, take-all, ext-getD}
 use borrow.Author.Tests.{le-ltb, eqb-true, eq-eqb}
 use Rattle.refusal.specs.declared.Refusal.{Refusal}
 use Rattle.refusal.specs.declared.Verdict.{Verdict}
 use Rattle.refusal.specs.declared.Verdict.the-variants.{Accepted, Refused}
-use Rattle.plan.specs.Range.{mostFlows, portsInRange, frameInRange}
-use Rattle.plan.specs.Accept.{acceptOf, IsPlan}
+use Rattle.plan.specs.Range.{mostFlows}
+use Rattle.plan.specs.Accept.{acceptOf}
 use Rattle.plan.proofs.AcceptLaws.{accepted}
 use Rattle.plan.specs.Below.{listBelow}
 use Rattle.plan.proofs.BelowLaws.{and-true, below-or-last}

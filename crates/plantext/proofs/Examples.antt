@@ -4,8 +4,9 @@ use Prim.Native.String.{String}
 use native.Mathlib.Omega.{arith}
 use mathlib.Core.Option.{Option, none, some}
 use mathlib.Core.Path.{_≡_, refl}
-use mathlib.Core.List.{List, [], _∷_, _++_}
-use Rattle.refusal.specs.Outcome.{Outcome, outcome}
+use mathlib.Core.List.{List, [], _∷_}
+use lib.ListN.{length}
+use Rattle.refusal.specs.Outcome.{outcome}
 use Rattle.refusal.specs.declared.Refusal.the-variants.{PortsOutOfRange, FrameOutOfRange, ListLength, RowAboveFrame, ColumnAboveFrame, NotPlanText}
 use Rattle.refusal.specs.declared.Verdict.the-variants.{Accepted, Refused}
 use Rattle.plan.specs.Lines.{rowSum, columnSum}
@@ -14,7 +15,7 @@ use Rattle.plan.specs.Accept.{acceptOf}
 use Rattle.plantext.specs.Bytes.{isDigit}
 use Rattle.plantext.specs.Grammar.{Text}
 use Rattle.plantext.specs.Values.{skip, digitsFrom, number, field, series, ends, valuesOf}
-use Rattle.plantext.specs.Read.{verdictOf, readTextOf}
+use Rattle.plantext.specs.Read.{verdictOf, readTextOf, longestText, mostText}
 use Rattle.plantext.proofs.TextLaws.{same-rules}
 use Rattle.plantext.proofs.Ascii.{ascii}
 
@@ -82,6 +83,14 @@ counts :
     × (valuesOf 1 [] ≡ none)
 unfolding skip digitsFrom number field series ends valuesOf isDigit
 counts = (refl, refl, refl, refl, refl, refl, refl, refl, refl)
+
+-- a text as long as one for its ports can be, and the length for 16 ports
+longest :
+    (valuesOf 1 (ascii "\"00001\"\r\n") ≡ some (1 ∷ []))
+    × (length (ascii "\"00001\"\r\n") ≡ longestText 1)
+    × (mostText ≡ 2064)
+unfolding skip digitsFrom number field series ends valuesOf isDigit
+longest = (refl, refl, refl)
 
 -- the grammar has a text exactly if the function reads it
 in-grammar : Text 2 (ascii "1,\"2\"\r\n3,4") (1 ∷ 2 ∷ 3 ∷ 4 ∷ [])

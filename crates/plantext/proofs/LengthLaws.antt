@@ -1,14 +1,12 @@
 -- How long a text of the grammar can be, and how many values it has.
 use Prim.Native.Nat.{ℕ, zero, suc, _+_, _*_, _-_, _≤_}
 use mathlib.Core.Path.{_≡_, refl}
-use mathlib.Core.List.{List, [], _∷_, _++_}
-use native.Mathlib.Nat.{mul-le-mul}
+use mathlib.Core.List.{List}
 use native.Mathlib.Omega.{arith}
 use lib.ListN.{length, length-append}
-use Rattle.plan.specs.Range.{mostPorts}
-use Rattle.plantext.specs.Bytes.{comma, quote, lineEnd}
+use Rattle.plantext.specs.Bytes.{comma, lineEnd}
 use Rattle.plantext.specs.Grammar.{Number, number, Field, plain, quoted, Series, one, more, Record, Records, Text, unended, ended}
-use Rattle.plantext.specs.Read.{longestText, mostText}
+use Rattle.plantext.specs.Read.{longestText}
 
 number-short : (text values : List ℕ) → Number text values → length text ≤ 5
 number-short text values (number digits some few small) = few

@@ -1,9 +1,8 @@
 -- Numbers in a text: the digits that the function takes are those of the grammar, and their value is the same.
 use Prim.Native.Nat.{ℕ, zero, suc, _+_, _*_, _-_, _<_, _≤_}
-use mathlib.Core.Path.{_≡_, refl, ap, sym, subst, _∙_}
-use mathlib.Core.Bool.{Bool, true, false, cond, _&&_}
+use mathlib.Core.Path.{_≡_, refl, ap, subst, _∙_}
+use mathlib.Core.Bool.{Bool, true, false, _&&_}
 use mathlib.Core.List.{List, [], _∷_, _++_, append-assoc, append-nil}
-use native.Mathlib.Numerals.{one-add}
 use native.Mathlib.Omega.{arith}
 use lib.Dec.{leb}
 use lib.ListN.{length, length-append}
@@ -12,7 +11,7 @@ use Rattle.plan.proofs.BelowLaws.{and-true}
 use Rattle.plantext.specs.Bytes.{digit, isDigit, digitOf}
 use Rattle.plantext.specs.Grammar.{Digits, none, next, Number}
 use Rattle.plantext.specs.Grammar as grammar
-use Rattle.plantext.specs.Values.{Parsed, nothing, parsed, Run, digitsFrom, checkedRun, number}
+use Rattle.plantext.specs.Values.{parsed, Run, digitsFrom, checkedRun, number}
 use Rattle.plantext.proofs.RuleLaws.{Taken, Sound, NoDigit, Complete, never}
 
 -- the byte of a digit, and the digit of a byte
@@ -22,7 +21,7 @@ byte-of-digit b e =
     let both = and-true (leb 48 b) (leb b 57) e in
     (omega (arith, leb-true 48 b (both .0), leb-true b 57 (both .1)), omega (arith, leb-true 48 b (both .0)))
 
-pub digit-of-byte : (d : ℕ) → d < 10 → (isDigit (digit d) ≡ true) × (digitOf (digit d) ≡ d)
+digit-of-byte : (d : ℕ) → d < 10 → (isDigit (digit d) ≡ true) × (digitOf (digit d) ≡ d)
 unfolding isDigit
 digit-of-byte d h = (simp (le-leb 48 (48 + d) (omega arith), le-leb (48 + d) 57 (omega arith)), omega arith)
 

@@ -14,9 +14,8 @@ use lib.Seq.{drop-cons}
 use borrow.Author.Tests.{lt-leb, le-leb, eq-eqb, ne-eqb}
 use Rattle.plan.proofs.BelowLaws.{lt-or-le, below-or-last}
 use Rattle.plantext.specs.Bytes.{isDigit, digitOf}
-use Rattle.plantext.specs.Values.{Parsed, nothing, parsed, andThen, skip, digitsFrom, before, series, atEnd}
-use Rattle.plantext.proofs.RuleLaws.{NoDigit, behind-none}
-use Rattle.plantext.proofs.NumberLaws.{none-taken}
+use Rattle.plantext.specs.Values.{Parsed, nothing, parsed, followedBy, skip, digitsFrom, before, series, atEnd}
+use Rattle.plantext.proofs.RuleLaws.{NoDigit, prefixed-none}
 
 -- What is left of a text from a place on.
 module _ (text : List ℕ) (at : ℕ) where
@@ -74,21 +73,21 @@ pub value-below : (value d k : ℕ) → value < 10 ^ k → d < 10 → value * 10
 value-below value d k h l = rw (add-one k, pow-suc 10 k) (omega arith)
 
 -- a rule behind one that took a mark, and behind one that found nothing
-pub then-rule : (first : Parsed) (rule : List ℕ → Parsed) (left : List ℕ) → first ≡ parsed [] left → andThen first rule ≡ rule left
-then-rule first rule left e = rw e (behind-none (rule left))
+pub then-rule : (first : Parsed) (rule : List ℕ → Parsed) (left : List ℕ) → first ≡ parsed [] left → followedBy first rule ≡ rule left
+then-rule first rule left e = rw e (prefixed-none (rule left))
 
-pub then-nothing : (first : Parsed) (rule : List ℕ → Parsed) → first ≡ nothing → andThen first rule ≡ nothing
+pub then-nothing : (first : Parsed) (rule : List ℕ → Parsed) → first ≡ nothing → followedBy first rule ≡ nothing
 then-nothing first rule e = rw e refl
 
 -- a mark of two parts
-pub skip-both : (mark more text : List ℕ) → skip (mark ++ more) text ≡ andThen (skip mark text) (skip more)
+pub skip-both : (mark more text : List ℕ) → skip (mark ++ more) text ≡ followedBy (skip mark text) (skip more)
 unfolding skip
-skip-both [] more text = sym (behind-none (skip more text))
+skip-both [] more text = sym (prefixed-none (skip more text))
 skip-both (m ∷ mark) more [] = refl
 skip-both (m ∷ mark) more (b ∷ text) = go (eqb b m) refl (skip-both mark more text)
   where
-    go : (is : Bool) → eqb b m ≡ is → skip (mark ++ more) text ≡ andThen (skip mark text) (skip more)
-        → skip (m ∷ (mark ++ more)) (b ∷ text) ≡ andThen (skip (m ∷ mark) (b ∷ text)) (skip more)
+    go : (is : Bool) → eqb b m ≡ is → skip (mark ++ more) text ≡ followedBy (skip mark text) (skip more)
+        → skip (m ∷ (mark ++ more)) (b ∷ text) ≡ followedBy (skip (m ∷ mark) (b ∷ text)) (skip more)
     go true e later = rw e later
     go false e later = rw e refl
 

@@ -1,6 +1,6 @@
 -- The verdict on a text in the request's order, what is known of an accepted one, and, for a reader that can't hold every text, that
 -- the first bytes, one more than the longest text has, are read as the whole is.
-use Prim.Native.Nat.{ℕ, zero, suc, _+_, _*_, _-_, _<_, _≤_}
+use Prim.Native.Nat.{ℕ, _*_, _-_, _<_, _≤_}
 use mathlib.Core.Path.{_≡_, refl, ap, sym, _∙_}
 use mathlib.Core.Bool.{Bool, true, false, not}
 use mathlib.Core.List.{List, []}
@@ -13,9 +13,7 @@ use lib.Seq.{length-take-le, take-all}
 use borrow.Author.Tests.{not-false}
 use Rattle.refusal.specs.Chain.{refuseIf}
 use Rattle.refusal.specs.Outcome.{outcome, written}
-use Rattle.refusal.specs.declared.Refusal.{Refusal}
 use Rattle.refusal.specs.declared.Refusal.the-variants.{PortsOutOfRange, FrameOutOfRange, ListLength, RowAboveFrame, ColumnAboveFrame, NotPlanText}
-use Rattle.refusal.specs.declared.Verdict.{Verdict}
 use Rattle.refusal.specs.declared.Verdict.the-variants.{Accepted, Refused}
 use Rattle.refusal.proofs.ChainLaws.{refuse-passed, refuse-ext}
 use Rattle.plan.specs.Lines.{rowSum, columnSum, isSquare}

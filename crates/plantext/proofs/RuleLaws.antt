@@ -1,6 +1,6 @@
 -- A rule as a function beside the same rule as a grammar: what it means that the two agree, for a mark, for one rule behind
 -- another, and for a series of items.
-use Prim.Native.Nat.{ℕ, zero, suc, _≤_}
+use Prim.Native.Nat.{ℕ, zero, suc}
 use mathlib.Core.Path.{_≡_, refl, ap, sym, subst, _∙_}
 use mathlib.Core.Bool.{Bool, true, false}
 use mathlib.Core.List.{List, [], _∷_, _++_, append-assoc, append-nil}
@@ -9,7 +9,7 @@ use lib.Dec.{eqb}
 use borrow.Author.Tests.{eqb-true, eq-eqb}
 use Rattle.plantext.specs.Bytes.{isDigit}
 use Rattle.plantext.specs.Grammar.{Series, one, more}
-use Rattle.plantext.specs.Values.{Parsed, nothing, parsed, behind, andThen, skip, before, series}
+use Rattle.plantext.specs.Values.{Parsed, nothing, parsed, prefixed, followedBy, skip, before, series}
 
 -- a piece at the beginning of a text that has these values by the grammar, and what is left behind it
 pub record Taken (Piece : List ℕ → List ℕ → Type 0) (text values rest : List ℕ) : Type 0 where
@@ -42,14 +42,14 @@ pub record Both (first : Parsed) (rule : List ℕ → Parsed) (values rest : Lis
   pub then-took : rule middle ≡ parsed late rest
   pub together : values ≡ early ++ late
 
-pub then-both : (first : Parsed) (rule : List ℕ → Parsed) (values rest : List ℕ) → andThen first rule ≡ parsed values rest → Both first rule values rest
+pub then-both : (first : Parsed) (rule : List ℕ → Parsed) (values rest : List ℕ) → followedBy first rule ≡ parsed values rest → Both first rule values rest
 then-both nothing rule values rest e = absurd (never e)
 then-both (parsed early middle) rule values rest e = go (rule middle) refl
   where
     go : (second : Parsed) → rule middle ≡ second → Both (parsed early middle) rule values rest
-    go nothing h = absurd (never (sym (ap (behind early) h) ∙ e))
+    go nothing h = absurd (never (sym (ap (prefixed early) h) ∙ e))
     go (parsed late left) h =
-        let same : parsed (early ++ late) left ≡ parsed values rest = sym (ap (behind early) h) ∙ e in
+        let same : parsed (early ++ late) left ≡ parsed values rest = sym (ap (prefixed early) h) ∙ e in
         record {
           early = early;
           middle = middle;
@@ -73,14 +73,14 @@ skip-sound (m ∷ mark) (b ∷ text) values rest e = go (eqb b m) refl (skip-sou
         (later .0, cc)
     go false h behind-it = absurd (never (rw h at e))
 
-pub skip-complete : (mark rest : List ℕ) → skip mark (mark ++ rest) ≡ parsed [] rest
+skip-complete : (mark rest : List ℕ) → skip mark (mark ++ rest) ≡ parsed [] rest
 unfolding skip
 skip-complete [] rest = refl
 skip-complete (m ∷ mark) rest = rw (eq-eqb m m refl) (skip-complete mark rest)
 
-pub behind-none : (p : Parsed) → behind [] p ≡ p
-behind-none nothing = refl
-behind-none (parsed values rest) = refl
+pub prefixed-none : (p : Parsed) → prefixed [] p ≡ p
+prefixed-none nothing = refl
+prefixed-none (parsed values rest) = refl
 
 -- A series of items whose function and grammar agree, with a mark that begins with no digit.
 module _ (item : List ℕ → Parsed) (Item : List ℕ → List ℕ → Type 0) (mark : List ℕ) where
@@ -100,10 +100,10 @@ module _ (item : List ℕ → Parsed) (Item : List ℕ → List ℕ → Type 0) 
   pub series-sound : Sound item Item → (k : ℕ) → Sound (series item mark (suc k)) (Series Item mark (suc k))
   unfolding series skip
   series-sound sound zero text values rest e =
-      let taken = sound text values rest (sym (behind-none (item text)) ∙ e) in
+      let taken = sound text values rest (sym (prefixed-none (item text)) ∙ e) in
       record { piece = taken .piece; split = taken .split; holds = one (taken .holds) }
   series-sound sound (suc k) text values rest e =
-      let outer = then-both (andThen (series item mark (suc k) text) (skip mark)) item values rest e in
+      let outer = then-both (followedBy (series item mark (suc k) text) (skip mark)) item values rest e in
       let inner = then-both (series item mark (suc k) text) (skip mark) (outer .early) (outer .middle) (outer .first-took) in
       let passed = skip-sound mark (inner .middle) (inner .late) (outer .middle) (inner .then-took) in
       let most = series-sound sound k text (inner .early) (inner .middle) (inner .first-took) in
@@ -117,7 +117,7 @@ module _ (item : List ℕ → Parsed) (Item : List ℕ → List ℕ → Type 0) 
 
   pub series-complete : Complete item Item → ((text : List ℕ) → NoDigit (mark ++ text)) → (k : ℕ) → Complete (series item mark k) (Series Item mark k)
   unfolding series skip
-  series-complete complete stops k piece values rest (one {text = text} h) clear = behind-none (item (text ++ rest)) ∙ complete text values rest h clear
+  series-complete complete stops k piece values rest (one {text = text} h) clear = prefixed-none (item (text ++ rest)) ∙ complete text values rest h clear
   series-complete complete stops k piece values rest (more {k = j} {text = text} {values = early} {last = last} {new = new} s h) clear =
       let most = series-complete complete stops j text early (mark ++ (last ++ rest)) s (stops (last ++ rest)) in
       rw (append-assoc, append-assoc, most, some-items s, skip-complete, complete last new rest h clear, append-nil) refl

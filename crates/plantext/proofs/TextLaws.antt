@@ -1,17 +1,17 @@
 -- The two forms of the rules agree, rule by rule: fields, records, and the text as a whole.
-use Prim.Native.Nat.{ℕ, zero, suc, _+_, _*_, _≤_}
+use Prim.Native.Nat.{ℕ, zero, suc, _+_}
 use mathlib.Core.Path.{_≡_, refl, ap, sym, subst, _∙_}
 use mathlib.Core.Bool.{Bool, true, false, cond, _||_}
 use mathlib.Core.List.{List, [], _∷_, _++_, append-assoc, append-nil}
 use mathlib.Core.Logic.{_⊎_, inl, inr, ⊎-elim}
-use mathlib.Core.Option.{Option, none, some}
+use mathlib.Core.Option.{none, some}
 use native.Mathlib.Omega.{arith}
 use lib.Dec.{eqb}
 use borrow.Author.Tests.{eqb-true}
 use Rattle.plantext.specs.Bytes.{isDigit, comma, quote, lineEnd}
 use Rattle.plantext.specs.Grammar.{Number, Field, plain, quoted, Record, Records, Text, unended, ended}
-use Rattle.plantext.specs.Values.{Parsed, nothing, parsed, andThen, skip, digitsFrom, number, fieldBehind, field, series, recordOf, recordsOf, atEnd, ends, whole, valuesOf, SameRules, OneReading}
-use Rattle.plantext.proofs.RuleLaws.{Taken, Sound, NoDigit, Complete, never, then-both, skip-sound, skip-complete, series-sound, series-complete}
+use Rattle.plantext.specs.Values.{Parsed, nothing, parsed, skip, digitsFrom, number, fieldBehind, field, recordOf, recordsOf, atEnd, ends, whole, valuesOf, SameRules, OneReading}
+use Rattle.plantext.proofs.RuleLaws.{Taken, Sound, Complete, never, then-both, skip-sound, series-sound, series-complete}
 use Rattle.plantext.proofs.NumberLaws.{number-sound, number-complete}
 
 quoted-taken : {text inside values middle rest : List ℕ} → text ≡ quote ++ inside → Taken Number inside values middle → middle ≡ quote ++ rest → Taken Field text values rest

@@ -1,6 +1,6 @@
 -- The rules of a plan's text as a grammar: "Each record is one input; each field is one to five decimal digits, plain or in
 -- double quotes; lines end in CR LF, the last one with or without. A value above 65,535, any other byte, or a record count or
--- field count other than N is refused". RFC 4180 has the same three levels:
+-- field count other than N is refused". RFC 4180, but for its header line, has the same three levels:
 --     file = record *(CRLF record) [CRLF]
 --     record = field *(COMMA field)
 --     field = escaped / non-escaped

@@ -16,14 +16,14 @@ pub data Parsed : Type 0 where
   parsed : (values rest : List ℕ) → Parsed
 
 -- the values before those of a rule that goes on
-abbrev pub behind : List ℕ → Parsed → Parsed
-behind values nothing = nothing
-behind values (parsed more rest) = parsed (values ++ more) rest
+abbrev pub prefixed : List ℕ → Parsed → Parsed
+prefixed values nothing = nothing
+prefixed values (parsed more rest) = parsed (values ++ more) rest
 
 -- one rule, and then another on what is left
-abbrev pub andThen : Parsed → (List ℕ → Parsed) → Parsed
-andThen nothing rule = nothing
-andThen (parsed values rest) rule = behind values (rule rest)
+abbrev pub followedBy : Parsed → (List ℕ → Parsed) → Parsed
+followedBy nothing rule = nothing
+followedBy (parsed values rest) rule = prefixed values (rule rest)
 
 -- a mark, which stands for no value
 unfoldable pub skip : List ℕ → List ℕ → Parsed
@@ -54,7 +54,7 @@ number text = checkedRun (digitsFrom 5 0 0 text)
 -- "plain or in double quotes"
 abbrev pub fieldBehind : Parsed → List ℕ → Parsed
 fieldBehind nothing text = number text
-fieldBehind (parsed values inside) text = andThen (number inside) (skip quote)
+fieldBehind (parsed values inside) text = followedBy (number inside) (skip quote)
 
 unfoldable pub field : List ℕ → Parsed
 field text = fieldBehind (skip quote text) text
@@ -67,7 +67,7 @@ before mark (suc k) = mark
 -- so many items with a mark between each two
 unfoldable pub series : (List ℕ → Parsed) → List ℕ → ℕ → List ℕ → Parsed
 series item mark zero text = parsed [] text
-series item mark (suc k) text = andThen (andThen (series item mark k text) (skip (before mark k))) item
+series item mark (suc k) text = followedBy (followedBy (series item mark k text) (skip (before mark k))) item
 
 -- "Each record is one input", with n fields
 abbrev pub recordOf : ℕ → List ℕ → Parsed

@@ -1,5 +1,4 @@
 use borrow.Author.Needs.{needs}
-use mathlib.Core.List.{[], _∷_}
 use mathlib.Core.Path.{refl}
 use Rattle.plantext.specs.Bytes.{comma}
 use Rattle.plantext.specs.Values.{skip}
