@@ -4,6 +4,7 @@ use mathlib.Core.Path.{_≡_, refl}
 use mathlib.Core.Bool.{Bool, true, false, _&&_}
 use mathlib.Core.Logic.{_⊎_, inl, inr, ⊎-elim}
 use native.Mathlib.Decide.{decLt}
+use native.Mathlib.Nat.{add-zero, add-suc, zero-mul, suc-mul}
 use native.Mathlib.Omega.{arith}
 use Rattle.plan.specs.Below.{sumBelow, allBelow}
 
@@ -56,10 +57,24 @@ sum-grow x y (suc n) m g l e h =
     (λ (b : m ≡ n). let last : y n ≡ x n + g = rw b at e in omega (arith, sum-ext y x n (λ k a. h k (omega arith) (omega arith))))
     (below-or-last m n l)
 
+-- every term but one is 0
+pub sum-one : (x : ℕ → ℕ) (n m : ℕ) → m < n → ((k : ℕ) → k < n → (k ≡ m → ⊥) → x k ≡ 0) → sumBelow x n ≡ x m
+sum-one x n m l h = omega (arith, sum-grow (λ k. 0) x n m (x m) l (omega arith) h, sum-zero n)
+
 -- shares: where each x is at most a's part of w parts of t, so are the sums
 pub sum-share : (x a : ℕ → ℕ) (t w n : ℕ) → ((k : ℕ) → k < n → x k * t ≤ w * a k) → sumBelow x n * t ≤ w * sumBelow a n
 sum-share x a t w zero h = omega arith
 sum-share x a t w (suc n) h = omega (arith, sum-share x a t w n (λ k l. h k (omega arith)), h n (omega arith))
+
+-- the terms below m, and the n that follow
+sum-more : (x : ℕ → ℕ) (m n : ℕ) → sumBelow x (m + n) ≡ sumBelow x m + sumBelow (λ k. x (m + k)) n
+sum-more x m zero = rw add-zero (omega arith)
+sum-more x m (suc n) = rw add-suc (omega (arith, sum-more x m n))
+
+-- m rows of n terms, row by row
+pub sum-rows : (x : ℕ → ℕ) (m n : ℕ) → sumBelow x (m * n) ≡ sumBelow (λ i. sumBelow (λ k. x (i * n + k)) n) m
+sum-rows x zero n = rw zero-mul refl
+sum-rows x (suc m) n = rw suc-mul (omega (arith, sum-more x (m * n) n, sum-rows x m n))
 
 -- rows and columns of a table add up to the same total
 pub sum-swap : (x : ℕ → ℕ → ℕ) (m n : ℕ) → sumBelow (λ i. sumBelow (x i) n) m ≡ sumBelow (λ j. sumBelow (λ i. x i j) m) n
