@@ -1,4 +1,4 @@
--- Sums and tests over the numbers below n: one more term, all terms compared, one term changed, sums of sums.
+-- Sums and tests over the numbers below n: one more term, all terms compared, one term changed or alone, sums of sums.
 use Prim.Native.Nat.{ℕ, zero, suc, _+_, _*_, _<_, _≤_}
 use mathlib.Core.Path.{_≡_, refl}
 use mathlib.Core.Bool.{Bool, true, false, _&&_}
