@@ -72,6 +72,6 @@ fn full_plan(ports: usize, frame: u32) -> Vec<u16> {
     let mut scaled = vec![0; ports * ports];
     let mut boosted = vec![0; ports * ports];
     regulator::scale(ports, frame, &demands, &mut scaled).expect("the demands have the right shape");
-    regulator::boost(ports, frame, &scaled, &mut boosted).expect("a scaled plan is accepted");
+    regulator::boost(ports, frame, 0, &scaled, &mut boosted).expect("a scaled plan is accepted");
     boosted
 }

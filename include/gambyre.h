@@ -47,9 +47,9 @@
 #include <stdint.h>
 
 /* The version of this header. The archive is of the same one if gambyre_version() == GAMBYRE_VERSION_NUMBER. */
-#define GAMBYRE_VERSION "0.10.0"
+#define GAMBYRE_VERSION "0.11.0"
 #define GAMBYRE_VERSION_MAJOR 0
-#define GAMBYRE_VERSION_MINOR 10
+#define GAMBYRE_VERSION_MINOR 11
 #define GAMBYRE_VERSION_PATCH 0
 #define GAMBYRE_VERSION_NUMBER (GAMBYRE_VERSION_MAJOR * 10000 + GAMBYRE_VERSION_MINOR * 100 + GAMBYRE_VERSION_PATCH)
 
@@ -300,11 +300,17 @@ GAMBYRE_MUST_USE gambyre_verdict gambyre_scale(size_t n, uint32_t t, const uint1
                                                uint16_t *rates, size_t rates_len);
 
 /*
- * Writes the given plan with its spare slots given out, so that every row and every column adds up to t.
+ * Writes the given plan with its spare slots given out, so that every row and every column adds up to t. No rate falls.
+ * Flows (i, (i + d) mod n) are diagonal d. The diagonals have their turn in the order (period + k) mod n for k = 0 to
+ * n - 1; in its turn a flow takes all the slots that its row and its column can both spare.
+ * With a period number that goes up by 1 from plan to plan, each diagonal is first once in any n plans. `period` may be
+ * any number, and only its remainder by n counts. Unless n is a power of 2, going from 4294967295 to 0 breaks the turn;
+ * going back to 0 at a multiple of n does not, and 720720 is a multiple of every n from 1 to 16.
+ * Up to version 0.10 there was no `period`, and boost did what it does with 0.
  * Refusals, in this order: 1, 2, 3, 4, 5. A refused call writes nothing.
  */
-GAMBYRE_MUST_USE gambyre_verdict gambyre_boost(size_t n, uint32_t t, const uint16_t *given, size_t given_len,
-                                               uint16_t *rates, size_t rates_len);
+GAMBYRE_MUST_USE gambyre_verdict gambyre_boost(size_t n, uint32_t t, uint32_t period, const uint16_t *given,
+                                               size_t given_len, uint16_t *rates, size_t rates_len);
 
 /*
  * Reads a plan file: "LSP", version 1 (16 bits), N (8 bits), T (16 bits), N * N rates (16 bits each), low byte first.

@@ -1,11 +1,12 @@
 #!/usr/bin/env bash
-# The header, the example and tests/header.c in C and C++, with gcc, and with clang where it is: the header compiles alone
-# in each version of the languages, the example prints what is stored, and tests/header.c finds no difference; once more
+# The header, the examples and tests/header.c in C and C++, with gcc, and with clang where it is: the header compiles alone
+# in each version of the languages, each example prints what is stored, and tests/header.c finds no difference; once more
 # with the address and undefined-behaviour sanitizers. Usage: tests/c.sh, after 'rt staticlib gambyre'.
 set -euo pipefail
 cd "$(dirname "$0")/.."
 archive=target/staticlib/libgambyre.a
 out=target/c
+examples=(examples/label_press examples/periods)
 flags=(-Wall -Wextra -Wpedantic -Werror -I include)
 
 fail() {
@@ -23,17 +24,19 @@ alone() {
     done
 }
 
-# hosts COMPILER LANGUAGE STANDARD FLAG..: builds and runs the example and tests/header.c.
+# hosts COMPILER LANGUAGE STANDARD FLAG..: builds and runs the examples and tests/header.c.
 hosts() {
     local compiler=$1 language=$2 standard=$3 source program
     shift 3
-    for source in examples/label_press tests/header; do
+    for source in "${examples[@]}" tests/header; do
         program=$out/${source##*/}
         "$compiler" "-std=$standard" "${flags[@]}" "$@" -x "$language" "$source.c" -x none "$archive" -o "$program" ||
             fail "$source.c as $standard by $compiler $*"
         "$program" >"$program.txt" || { cat "$program.txt"; fail "$source.c as $standard by $compiler $*"; }
     done
-    diff examples/label_press.txt "$out/label_press.txt" || fail "the example's printout as $standard by $compiler $*"
+    for source in "${examples[@]}"; do
+        diff "$source.txt" "$out/${source##*/}.txt" || fail "the printout of $source.c as $standard by $compiler $*"
+    done
 }
 
 # stops TEXT FLAG..: gcc refuses the program on standard input, and says the text.
@@ -96,4 +99,4 @@ stops "not handled in switch" <<<"$header
 int refused(gambyre_verdict verdict);
 int refused(gambyre_verdict verdict) { switch (verdict) { case GAMBYRE_ACCEPTED: return 0; } return 1; }"
 
-echo "tests/c.sh: header, example and tests/header.c as C99 and C++11 by $compilers, and with the sanitizers"
+echo "tests/c.sh: header, examples and tests/header.c as C99 and C++11 by $compilers, and with the sanitizers"

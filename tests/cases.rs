@@ -9,6 +9,7 @@ pub fn all<S: Operations>() {
     c3_crossing_fills::<S>();
     c4_scale::<S>();
     c5_boost::<S>();
+    last_periods::<S>();
     c6_one_flow::<S>();
     c7_no_rates::<S>();
     c8_rows::<S>();
@@ -80,10 +81,52 @@ pub fn c4_scale<S: Operations>() {
 }
 
 pub fn c5_boost<S: Operations>() {
-    let mut rates = [9; 9];
-    assert_eq!(S::boost(3, 10, &[2, 3, 3, 2, 3, 2, 2, 0, 3], &mut rates), 0, "C5");
-    assert_eq!(rates, [4, 3, 3, 2, 6, 2, 4, 1, 5], "C5");
+    let period_0 = [4, 3, 3, 2, 6, 2, 4, 1, 5];
+    let periods = [period_0, [2, 5, 3, 2, 4, 4, 6, 1, 3], [2, 3, 5, 5, 3, 2, 3, 4, 3], period_0];
+    for (period, expected) in (0..).zip(periods) {
+        let mut rates = [9; 9];
+        assert_eq!(S::boost(3, 10, period, &[2, 3, 3, 2, 3, 2, 2, 0, 3], &mut rates), 0, "C5, period {period}");
+        assert_eq!(rates, expected, "C5, period {period}");
+    }
 }
+
+/// With N = 7 these periods begin on diagonals 5 and 3, and a sum of 32 bits would wrap on the way. The plans were worked
+/// out apart from both implementations.
+pub fn last_periods<S: Operations>() {
+    for (period, expected) in [(4_294_967_290, FIVE_FIRST), (4_294_967_295, THREE_FIRST)] {
+        let mut rates = [9; 49];
+        assert_eq!(S::boost(7, 6, period, &SEVEN_PORTS.concat(), &mut rates), 0, "period {period}");
+        assert_eq!(rates[..], expected.concat(), "period {period}");
+    }
+}
+
+const SEVEN_PORTS: [[u16; 7]; 7] = [
+    [0, 0, 1, 0, 0, 0, 0],
+    [0, 2, 0, 0, 1, 2, 0],
+    [0, 0, 0, 1, 1, 0, 1],
+    [0, 1, 0, 1, 2, 2, 0],
+    [0, 1, 0, 2, 1, 2, 0],
+    [0, 1, 0, 0, 1, 0, 0],
+    [0, 0, 2, 0, 0, 0, 0],
+];
+const FIVE_FIRST: [[u16; 7]; 7] = [
+    [1, 0, 1, 0, 0, 0, 4],
+    [0, 2, 0, 0, 1, 2, 1],
+    [3, 0, 0, 1, 1, 0, 1],
+    [0, 1, 0, 1, 2, 2, 0],
+    [0, 1, 0, 2, 1, 2, 0],
+    [0, 1, 2, 2, 1, 0, 0],
+    [2, 1, 3, 0, 0, 0, 0],
+];
+const THREE_FIRST: [[u16; 7]; 7] = [
+    [2, 0, 1, 2, 0, 0, 1],
+    [0, 2, 0, 0, 1, 2, 1],
+    [0, 0, 0, 1, 1, 0, 4],
+    [0, 1, 0, 1, 2, 2, 0],
+    [0, 1, 0, 2, 1, 2, 0],
+    [3, 2, 0, 0, 1, 0, 0],
+    [1, 0, 5, 0, 0, 0, 0],
+];
 
 pub fn c6_one_flow<S: Operations>() {
     assert_eq!(frame_choices::<S>(&[1], 1), ["0"], "C6");
@@ -227,7 +270,7 @@ pub fn refusal_order<S: Operations>() {
     assert_eq!(S::start(2, 1, &[0; 4], 0, &[]).verdict, 6);
     let mut rates = [8; 4];
     assert_eq!(S::scale(2, 0, &[], &mut rates), 2);
-    assert_eq!(S::boost(2, 1, &[9; 4], &mut rates[..3]), 3);
+    assert_eq!(S::boost(2, 1, 1, &[9; 4], &mut rates[..3]), 3);
     assert_eq!(rates, [8; 4]);
 
     let mut state = start::<S>(1, 1, &[1], 1, &[0]);

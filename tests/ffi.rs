@@ -39,7 +39,15 @@ extern "C" {
         rates: *mut u16,
         rates_len: usize,
     ) -> u32;
-    fn gambyre_boost(n: usize, t: u32, given: *const u16, given_len: usize, rates: *mut u16, rates_len: usize) -> u32;
+    fn gambyre_boost(
+        n: usize,
+        t: u32,
+        period: u32,
+        given: *const u16,
+        given_len: usize,
+        rates: *mut u16,
+        rates_len: usize,
+    ) -> u32;
     fn gambyre_read(bytes: *const u8, bytes_len: usize) -> Reading;
     fn gambyre_read_text(n: usize, t: u32, text: *const u8, text_len: usize, rates: *mut u16, rates_len: usize) -> u32;
     fn gambyre_choose(m: Multiplexer, rates: *const u16, rates_len: usize, frame: u32, slot: u32) -> Choice;
@@ -99,8 +107,8 @@ impl Operations for Library {
         unsafe { gambyre_scale(ports, frame, demands.as_ptr(), demands.len(), rates.as_mut_ptr(), rates.len()) }
     }
 
-    fn boost(ports: usize, frame: u32, given: &[u16], rates: &mut [u16]) -> u32 {
-        unsafe { gambyre_boost(ports, frame, given.as_ptr(), given.len(), rates.as_mut_ptr(), rates.len()) }
+    fn boost(ports: usize, frame: u32, period: u32, given: &[u16], rates: &mut [u16]) -> u32 {
+        unsafe { gambyre_boost(ports, frame, period, given.as_ptr(), given.len(), rates.as_mut_ptr(), rates.len()) }
     }
 
     fn read(bytes: &[u8]) -> Reading {

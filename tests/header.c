@@ -1,7 +1,8 @@
 /*
  * Holds include/gambyre.h to the library: the small example of each refusal answers the number behind its name, and so do
- * the kinds of a port's answer and of a choice; the limits and the version are the library's; a hand-made state may hold
- * any byte; an empty list may be NULL. It compiles as C99 and as C++. Exits with 1 if something differs.
+ * the kinds of a port's answer and of a choice; the limits and the version are the library's; a period number puts its
+ * diagonal first; a hand-made state may hold any byte; an empty list may be NULL. It compiles as C99 and as C++. Exits with 1
+ * if something differs.
  */
 #include "gambyre.h"
 
@@ -103,6 +104,20 @@ static void plans(void) {
     same("row 2 2", gambyre_accept(2, 3, row, 4), GAMBYRE_ROW_ABOVE_FRAME);
     same("rows 2 0 and 2 0", gambyre_accept(2, 3, column, 4), GAMBYRE_COLUMN_ABOVE_FRAME);
     same("no rates", gambyre_accept(2, 3, none, 4), GAMBYRE_ACCEPTED);
+}
+
+/* No rates, and a frame of 5: the flows of the diagonal that is first get it whole. */
+static void periods(void) {
+    const uint16_t none[9] = {0};
+    const uint32_t period[6] = {0, 1, 2, 3, UINT32_MAX - 1, UINT32_MAX};
+    const size_t first[6] = {0, 1, 2, 0, 2, 0};
+    for (int turn = 0; turn < 6; turn++) {
+        uint16_t rates[9] = {9, 9, 9, 9, 9, 9, 9, 9, 9};
+        same("boost", gambyre_boost(3, 5, period[turn], none, 9, rates, 9), GAMBYRE_ACCEPTED);
+        for (size_t flow = 0; flow < 9; flow++) {
+            same("a boosted rate", rates[flow], flow % 3 == (flow / 3 + first[turn]) % 3 ? 5 : 0);
+        }
+    }
 }
 
 static void files(void) {
@@ -282,8 +297,8 @@ static void empty_lists(void) {
     same("desk view, nowhere to copy", gambyre_desk_view(always, 1, always, 1, 1, 0, 0, NULL, 0), 1);
     same("scale, no demands", gambyre_scale(1, 1, NULL, 0, list, 1), GAMBYRE_LIST_LENGTH);
     same("scale, no rates", gambyre_scale(1, 1, always, 1, NULL, 0), GAMBYRE_LIST_LENGTH);
-    same("boost, no plan", gambyre_boost(1, 1, NULL, 0, list, 1), GAMBYRE_LIST_LENGTH);
-    same("boost, no rates", gambyre_boost(1, 1, always, 1, NULL, 0), GAMBYRE_LIST_LENGTH);
+    same("boost, no plan", gambyre_boost(1, 1, 0, NULL, 0, list, 1), GAMBYRE_LIST_LENGTH);
+    same("boost, no rates", gambyre_boost(1, 1, 0, always, 1, NULL, 0), GAMBYRE_LIST_LENGTH);
     same("read, no bytes", gambyre_read(NULL, 0).verdict, GAMBYRE_FILE_LENGTH);
     same("read_text, no text", gambyre_read_text(1, 1, NULL, 0, list, 1), GAMBYRE_NOT_PLAN_TEXT);
     same("read_text, no rates", gambyre_read_text(1, 1, (const uint8_t *)"1", 1, NULL, 0), GAMBYRE_LIST_LENGTH);
@@ -296,6 +311,7 @@ int main(void) {
     version();
     texts();
     plans();
+    periods();
     files();
     plan_texts();
     limits();

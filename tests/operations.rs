@@ -52,7 +52,7 @@ pub trait Operations {
     fn desk_view(running: &[u16], waiting: &[u16], ports: usize, input: usize, takeover: u32, out: &mut [u16])
         -> usize;
     fn scale(ports: usize, frame: u32, demands: &[u16], rates: &mut [u16]) -> u32;
-    fn boost(ports: usize, frame: u32, given: &[u16], rates: &mut [u16]) -> u32;
+    fn boost(ports: usize, frame: u32, period: u32, given: &[u16], rates: &mut [u16]) -> u32;
     fn read(bytes: &[u8]) -> Reading;
     fn read_text(ports: usize, frame: u32, text: &[u8], rates: &mut [u16]) -> u32;
     fn choose(multiplexer: &Multiplexer, rates: &[u16], frame: u32, slot: u32) -> Choice;
@@ -93,8 +93,8 @@ impl Operations for Model {
         number(&regulator::scale(ports, frame, demands, rates))
     }
 
-    fn boost(ports: usize, frame: u32, given: &[u16], rates: &mut [u16]) -> u32 {
-        number(&regulator::boost(ports, frame, given, rates))
+    fn boost(ports: usize, frame: u32, period: u32, given: &[u16], rates: &mut [u16]) -> u32 {
+        number(&regulator::boost(ports, frame, period, given, rates))
     }
 
     fn read(bytes: &[u8]) -> Reading {

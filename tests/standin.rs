@@ -62,12 +62,13 @@ unsafe extern "C" fn gambyre_scale(
 unsafe extern "C" fn gambyre_boost(
     n: usize,
     t: u32,
+    period: u32,
     given: *const u16,
     given_len: usize,
     rates: *mut u16,
     rates_len: usize,
 ) -> u32 {
-    Model::boost(n, t, from_raw_parts(given, given_len), from_raw_parts_mut(rates, rates_len))
+    Model::boost(n, t, period, from_raw_parts(given, given_len), from_raw_parts_mut(rates, rates_len))
 }
 
 #[no_mangle]

@@ -20,6 +20,8 @@ pub fn compare<S: Operations>(rounds: usize, random: &mut Random, tally: &mut Ta
     let mut inputs = Inputs::<S> { random, tally, implementation: PhantomData };
     same("version", &S::version(), &Model::version())?;
     inputs.plan_edges()?;
+    inputs.period_edges()?;
+    inputs.fair_start()?;
     inputs.desk_view_edges()?;
     inputs.multiplexer_edges()?;
     inputs.start_edges()?;
@@ -96,20 +98,19 @@ impl<S: Operations> Inputs<'_, S> {
         Ok(())
     }
 
-    fn boost(&mut self, ports: usize, frame: u32, given: &[u16], out_length: usize) -> Result<(), String> {
+    fn boost(&mut self, ports: usize, frame: u32, period: u32, given: &[u16], out_length: usize) -> Result<(), String> {
         let mut subject_out = Guarded::rates(self.random, out_length);
         let mut model_out = subject_out.clone();
-        let subject = S::boost(ports, frame, given, subject_out.list_mut());
-        let model = Model::boost(ports, frame, given, model_out.list_mut());
+        let subject = S::boost(ports, frame, period, given, subject_out.list_mut());
+        let model = Model::boost(ports, frame, period, given, model_out.list_mut());
         self.seen(model);
-        let full = |list: &[u16]| {
-            let mut lines = (0..ports).map(|line| (row_sum(ports, list, line), column_sum(ports, list, line)));
-            lines.all(|sums| sums == (frame, frame))
-        };
+        let promised = || if subject == 0 { boosted(ports, frame, period, given, subject_out.list()) } else { Ok(()) };
         same_verdict(subject, model)
             .and_then(|()| same_list(&subject_out, &model_out))
-            .and_then(|()| same("every line is full", &(subject != 0 || full(subject_out.list())), &true))
-            .map_err(|what| format!("boost N {ports} T {frame} plan {} out {out_length}: {what}", told(given)))
+            .and_then(|()| promised())
+            .map_err(|what| {
+                format!("boost N {ports} T {frame} period {period} plan {} out {out_length}: {what}", told(given))
+            })
     }
 
     fn read(&mut self, bytes: &[u8]) -> Result<u32, String> {
@@ -212,6 +213,22 @@ impl<S: Operations> Inputs<'_, S> {
         self.tally.inputs += 1;
         self.tally.verdict(verdict);
     }
+}
+
+/// What is promised of a boosted plan, judged by the two lists alone.
+fn boosted(ports: usize, frame: u32, period: u32, given: &[u16], list: &[u16]) -> Result<(), String> {
+    let mut lines = (0..ports).map(|line| (row_sum(ports, list, line), column_sum(ports, list, line)));
+    let all_full = lines.all(|sums| sums == (frame, frame));
+    let none_falls = list.iter().zip(given).all(|(rate, before)| rate >= before);
+    let gains_all = |input: usize| {
+        let output = ((u64::from(period) + input as u64) % ports as u64) as usize;
+        let fuller = row_sum(ports, given, input).max(column_sum(ports, given, output));
+        let flow = input * ports + output;
+        u32::from(list[flow]) == u32::from(given[flow]) + frame - fuller
+    };
+    same("every line is full", &all_full, &true)
+        .and_then(|()| same("no rate falls", &none_falls, &true))
+        .and_then(|()| same("the first diagonal gains all it can", &(0..ports).all(gains_all), &true))
 }
 
 pub fn plan_file(ports: u8, frame: u16, rates: &[u16]) -> Vec<u8> {

@@ -12,8 +12,8 @@ pub fn accepted(random: &mut Random, ports: usize, frame: u32) -> Vec<u16> {
         2 if random.one_in(3) => vec![0; ports * ports],
         2 | 3 => sparse(random, ports, frame),
         4 => scaled(random, ports, frame),
-        5 => boosted(ports, frame, &sparse(random, ports, frame)),
-        _ => boosted(ports, frame, &scaled(random, ports, frame)),
+        5 => boosted(ports, frame, random.period(), &sparse(random, ports, frame)),
+        _ => boosted(ports, frame, random.period(), &scaled(random, ports, frame)),
     }
 }
 
@@ -30,9 +30,9 @@ pub fn neighbour(random: &mut Random, ports: usize, frame: u32, plan: &[u16]) ->
     rates
 }
 
-pub fn boosted(ports: usize, frame: u32, plan: &[u16]) -> Vec<u16> {
+pub fn boosted(ports: usize, frame: u32, period: u32, plan: &[u16]) -> Vec<u16> {
     let mut rates = vec![0; ports * ports];
-    regulator::boost(ports, frame, plan, &mut rates).expect("the plan is accepted");
+    regulator::boost(ports, frame, period, plan, &mut rates).expect("the plan is accepted");
     rates
 }
 

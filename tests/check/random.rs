@@ -46,6 +46,15 @@ impl Random {
         }
     }
 
+    /// Any period number, those near 0 and those near 2^32 more often.
+    pub fn period(&mut self) -> u32 {
+        match self.below(4) {
+            0 => self.below(20) as u32,
+            1 => u32::MAX - self.below(20) as u32,
+            _ => self.next() as u32,
+        }
+    }
+
     pub fn cells(&mut self, length: usize) -> Vec<u32> {
         (0..length).map(|_| self.next() as u32).collect()
     }

@@ -132,7 +132,7 @@ impl Script {
         let Start { ports, frame, .. } = self.start;
         self.plan = match self.random.below(4) {
             0 => plans::accepted(&mut self.random, ports, frame),
-            1 => plans::boosted(ports, frame, &self.plan),
+            1 => plans::boosted(ports, frame, self.random.period(), &self.plan),
             _ => plans::neighbour(&mut self.random, ports, frame, &self.plan),
         };
         Call::Load { ports, frame, rates: self.plan.clone() }

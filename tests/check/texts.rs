@@ -106,7 +106,8 @@ fn without_last_end(random: &mut Random) -> PlanText {
 
 fn full_lines(random: &mut Random) -> PlanText {
     let PlanText { ports, frame, rates, .. } = of_any_ports(random, Writing::Plain);
-    PlanText::new(random, Writing::Mixed, ports, frame, &plans::boosted(ports, frame, &rates))
+    let full = plans::boosted(ports, frame, random.period(), &rates);
+    PlanText::new(random, Writing::Mixed, ports, frame, &full)
 }
 
 /// One flow has this rate, the others of its row have 0.

@@ -22,14 +22,16 @@ pub fn scale(ports: usize, frame: u32, demands: &[u16], rates: &mut [u16]) -> Re
     Ok(())
 }
 
-/// Goes through the diagonals; each flow on one takes what both its lines still have to spare.
-pub fn boost(ports: usize, frame: u32, given: &[u16], rates: &mut [u16]) -> Result<(), Refusal> {
+/// Goes once round the diagonals, from the one that the period names on; each flow on one takes what both its lines
+/// still have to spare.
+pub fn boost(ports: usize, frame: u32, period: u32, given: &[u16], rates: &mut [u16]) -> Result<(), Refusal> {
     check_shape(ports, frame)?;
     check_length(ports, given)?;
     check_length(ports, rates)?;
     check_sums(ports, frame, given)?;
     rates.copy_from_slice(given);
-    for diagonal in 0..ports {
+    let first = period as usize % ports;
+    for diagonal in (first..ports).chain(0..first) {
         for input in 0..ports {
             let output = (input + diagonal) % ports;
             let fuller = row_sum(ports, rates, input).max(column_sum(ports, rates, output));

@@ -6,7 +6,7 @@ use Rattle.plan.specs.Range.{portsInRange, frameInRange}
 use Rattle.plan.specs.Accept.{acceptOf}
 use Rattle.regulator.specs.Outcome.{listsOf}
 use Rattle.regulator.specs.Scale.{scaledOf, scaleOf}
-use Rattle.regulator.specs.Boost.{columnOn, boostPlace, boostDiagonal, boostDiagonals, boostedOf, boostVerdict, boostOf}
+use Rattle.regulator.specs.Boost.{columnOn, boostPlace, boostDiagonal, diagonalIn, boostDiagonals, boostedOf, boostVerdict, boostOf}
 use Rattle.multiplexer.specs.Choose.{eligible, roundedUp, better, bestOf, chooseOf}
 use Rattle.multiplexer.specs.Count.{countsAfter, clearedBelow}
 use Rattle.multiplexer.specs.Frame.{countsAt}
@@ -30,5 +30,5 @@ use Rattle.cases.specs.Look.{runOf, slotsOf, slotsFrom}
 use Rattle.cases.specs.Table.{Hold, table}
 
 pub cases-hold : Hold table
-unfolding runOf slotsOf slotsFrom definedRun startOf startVerdict freshWith overlaid arriveOf arriveVerdict stepOf stepVerdict afterSlot takeoverOf validOf plansValid planValid flowsValid portsValid portValid depthInRange storeFits boardChoices headChoices choicesOf roomForAll roomFor movesOf boardMoves moveOf sendsOf headSends sendOf countsOf countsAfter clearedBelow countsAt chooseOf bestOf better eligible roundedUp scaleOf scaledOf boostOf boostVerdict boostedOf boostDiagonals boostDiagonal boostPlace columnOn listsOf acceptOf portsInRange frameInRange rowSum columnSum listBelow
-cases-hold = (refl, (refl, (refl, (refl, (refl, (refl, (refl, (refl, (refl, (refl, (refl, (refl, (refl, (refl, (refl, (refl, (refl, (refl, (refl, (refl, (refl, (refl, tt))))))))))))))))))))))
+unfolding runOf slotsOf slotsFrom definedRun startOf startVerdict freshWith overlaid arriveOf arriveVerdict stepOf stepVerdict afterSlot takeoverOf validOf plansValid planValid flowsValid portsValid portValid depthInRange storeFits boardChoices headChoices choicesOf roomForAll roomFor movesOf boardMoves moveOf sendsOf headSends sendOf countsOf countsAfter clearedBelow countsAt chooseOf bestOf better eligible roundedUp scaleOf scaledOf boostOf boostVerdict boostedOf boostDiagonals diagonalIn boostDiagonal boostPlace columnOn listsOf acceptOf portsInRange frameInRange rowSum columnSum listBelow
+cases-hold = (refl, (refl, (refl, (refl, (refl, (refl, (refl, (refl, (refl, (refl, (refl, (refl, (refl, (refl, (refl, (refl, (refl, (refl, (refl, (refl, (refl, (refl, (refl, (refl, (refl, (refl, (refl, (refl, (refl, tt)))))))))))))))))))))))))))))

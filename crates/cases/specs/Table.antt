@@ -1,15 +1,16 @@
 -- "Cases with a star make up one table, proved of the specification by a single theorem". Each line has what the
--- definitions compute, and what the scope says. The scope's text of a case stands over it.
+-- definitions compute, and what the scope or a request (L3) says; its text of the case stands over it.
 use Prim.Native.Nat.{ℕ}
 use mathlib.Core.Path.{_≡_}
 use mathlib.Core.List.{List, [], _∷_, _++_}
 use lib.ListN.{replicate}
 use Rattle.refusal.specs.Number.{verdictNumberOf}
 use Rattle.refusal.specs.declared.Verdict.the-variants.{Accepted}
+use Rattle.plan.specs.Below.{listBelow}
 use Rattle.plan.specs.Accept.{acceptOf}
 use Rattle.regulator.specs.Outcome.{Outcome, outcome}
 use Rattle.regulator.specs.Scale.{scaleOf}
-use Rattle.regulator.specs.Boost.{boostOf}
+use Rattle.regulator.specs.Boost.{diagonalIn, boostOf}
 use Rattle.multiplexer.specs.declared.Choice.the-variants.{Idle, Flow}
 use Rattle.runs.specs.Event.{Call, Event}
 use Rattle.runs.specs.Event.Lent.{own}
@@ -38,6 +39,9 @@ row2 a b = a ∷ b ∷ []
 
 abbrev row3 : ℕ → ℕ → ℕ → List ℕ
 row3 a b c = a ∷ b ∷ c ∷ []
+
+abbrev row7 : ℕ → ℕ → ℕ → ℕ → ℕ → ℕ → ℕ → List ℕ
+row7 a b c d e f g = a ∷ b ∷ c ∷ d ∷ e ∷ f ∷ g ∷ []
 
 -- Below, `Flow f` is the scope's f in a list of choices, and `Idle` its "-".
 
@@ -78,9 +82,61 @@ scaled = scaleOf 3 10 (row3 4 5 6 ++ row3 3 5 5 ++ row3 2 1 6) (replicate 9 0)
 abbrev pub c4 : List Line
 c4 = (scaled is outcome Accepted (row3 2 3 3 ++ row3 2 3 2 ++ row3 2 0 3)) ∷ []
 
--- C5* boosted: 4 3 3, 2 6 2, 4 1 5.
+-- C5* boosted: 4 3 3, 2 6 2, 4 1 5. "C5 is period 0."
+abbrev boostedIn : ℕ → Outcome
+boostedIn p = boostOf 3 10 p (scaled .list) (replicate 9 0)
+
 abbrev pub c5 : List Line
-c5 = (boostOf 3 10 (scaled .list) (replicate 9 0) is outcome Accepted (row3 4 3 3 ++ row3 2 6 2 ++ row3 4 1 5)) ∷ []
+c5 = (boostedIn 0 is outcome Accepted (row3 4 3 3 ++ row3 2 6 2 ++ row3 4 1 5)) ∷ []
+
+-- L3. C4's plan boosted, rows after one another: period 1: 2 5 3, 2 4 4, 6 1 3; period 2: 2 3 5, 5 3 2, 3 4 3; period 3 as
+-- period 0.
+abbrev pub l3 : List Line
+l3 =
+    (boostedIn 1 is outcome Accepted (row3 2 5 3 ++ row3 2 4 4 ++ row3 6 1 3))
+    ∷ (boostedIn 2 is outcome Accepted (row3 2 3 5 ++ row3 5 3 2 ++ row3 3 4 3))
+    ∷ (boostedIn 3 is boostedIn 0)
+    ∷ []
+
+-- L3, "p + k must not wrap (4,294,967,290 and 4,294,967,295 with N = 7 are cases to compute)". In 32 bits the first would end
+-- on diagonal 0 in place of 4, and the second would go from 3 to 0. In both, each diagonal of this plan of T = 6 grows.
+abbrev seven : List ℕ
+seven =
+    row7 0 0 1 0 0 0 0
+    ++ row7 0 2 0 0 1 2 0
+    ++ row7 0 0 0 1 1 0 1
+    ++ row7 0 1 0 1 2 2 0
+    ++ row7 0 1 0 2 1 2 0
+    ++ row7 0 1 0 0 1 0 0
+    ++ row7 0 0 2 0 0 0 0
+
+abbrev fiveFirst : List ℕ
+fiveFirst =
+    row7 1 0 1 0 0 0 4
+    ++ row7 0 2 0 0 1 2 1
+    ++ row7 3 0 0 1 1 0 1
+    ++ row7 0 1 0 1 2 2 0
+    ++ row7 0 1 0 2 1 2 0
+    ++ row7 0 1 2 2 1 0 0
+    ++ row7 2 1 3 0 0 0 0
+
+abbrev threeFirst : List ℕ
+threeFirst =
+    row7 2 0 1 2 0 0 1
+    ++ row7 0 2 0 0 1 2 1
+    ++ row7 0 0 0 1 1 0 4
+    ++ row7 0 1 0 1 2 2 0
+    ++ row7 0 1 0 2 1 2 0
+    ++ row7 3 2 0 0 1 0 0
+    ++ row7 1 0 5 0 0 0 0
+
+abbrev pub l3Last : List Line
+l3Last =
+    (listBelow (diagonalIn 7 4294967290) 7 is (5 ∷ 6 ∷ 0 ∷ 1 ∷ 2 ∷ 3 ∷ 4 ∷ []))
+    ∷ (listBelow (diagonalIn 7 4294967295) 7 is (3 ∷ 4 ∷ 5 ∷ 6 ∷ 0 ∷ 1 ∷ 2 ∷ []))
+    ∷ (boostOf 7 6 4294967290 seven (replicate 49 0) is outcome Accepted fiveFirst)
+    ∷ (boostOf 7 6 4294967295 seven (replicate 49 0) is outcome Accepted threeFirst)
+    ∷ []
 
 -- C6* N = 1, T = 1, rate 1: served every slot.
 abbrev c6Run : List Event
@@ -122,4 +178,4 @@ c9 =
     ∷ []
 
 abbrev pub table : List Line
-table = c1 ++ c2 ++ c3 ++ c4 ++ c5 ++ c6 ++ c7 ++ c8 ++ c9
+table = c1 ++ c2 ++ c3 ++ c4 ++ c5 ++ l3 ++ l3Last ++ c6 ++ c7 ++ c8 ++ c9

@@ -67,10 +67,16 @@ pub extern "C" fn gambyre_scale(n: usize, t: u32, demands: &[u16], rates: &mut [
 }
 
 #[no_mangle]
-pub extern "C" fn gambyre_boost(n: usize, t: u32, given: &[u16], rates: &mut [u16]) -> u32
-    ensures { λ r. ⌜ numbered r (now (rates .exit)) ≡ outcomeRecord (boostOf n t (now (given .entry)) (now (rates .entry))) ⌝ }
+pub extern "C" fn gambyre_boost(
+    n: usize,
+    t: u32,
+    period: u32,
+    given: &[u16],
+    rates: &mut [u16],
+) -> u32
+    ensures { λ r. ⌜ numbered r (now (rates .exit)) ≡ outcomeRecord (boostOf n t period (now (given .entry)) (now (rates .entry))) ⌝ }
 {
-    verdict_number(boost(n, t, given, rates))
+    verdict_number(boost(n, t, period, given, rates))
 }
 
 #[no_mangle]

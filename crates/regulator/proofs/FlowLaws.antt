@@ -11,6 +11,7 @@ use Rattle.plan.specs.Below.{sumBelow}
 use Rattle.plan.proofs.BelowLaws.{sum-ext, sum-mono, sum-grow, sum-term, sum-swap}
 use Rattle.plan.proofs.LineLaws.{flow-below, flow-row, flow-column}
 use Rattle.regulator.specs.Sums.{largerSum, LineSums}
+use Rattle.regulator.proofs.SumLaws.{sum-gap}
 
 -- a place's row and column are below n
 pub place-below : (n p : ℕ) → 1 ≤ n → p < n * n → (p / n < n) × (p % n < n)
@@ -40,6 +41,15 @@ pub column-mono : (l m : List ℕ) (n j : ℕ) → ((p : ℕ) → getD l p 0 ≤
 unfolding columnSum
 column-mono l m n j h = sum-mono _ _ n (λ i b. h (flowOf n i j))
 
+-- and of what a flow can gain by it
+pub gain-row : (l m : List ℕ) (n i j : ℕ) → ((p : ℕ) → getD l p 0 ≤ getD m p 0) → j < n → getD m (flowOf n i j) 0 + rowSum l n i ≤ getD l (flowOf n i j) 0 + rowSum m n i
+unfolding rowSum
+gain-row l m n i j h = sum-gap (λ b. getD l (flowOf n i b) 0) (λ b. getD m (flowOf n i b) 0) n j (λ b hb. h (flowOf n i b))
+
+pub gain-column : (l m : List ℕ) (n i j : ℕ) → ((p : ℕ) → getD l p 0 ≤ getD m p 0) → i < n → getD m (flowOf n i j) 0 + columnSum l n j ≤ getD l (flowOf n i j) 0 + columnSum m n j
+unfolding columnSum
+gain-column l m n i j h = sum-gap (λ a. getD l (flowOf n a j) 0) (λ a. getD m (flowOf n a j) 0) n i (λ a ha. h (flowOf n a j))
+
 -- rows and columns add up to the same total
 pub same-total : (l : List ℕ) (n : ℕ) → sumBelow (rowSum l n) n ≡ sumBelow (columnSum l n) n
 unfolding rowSum columnSum
@@ -54,7 +64,7 @@ module _ (l : List ℕ) (n i j g : ℕ) (square : length l ≡ n * n) (hi : i < 
   grown-here = getD-set-same l (flowOf n i j) _ 0 (omega (arith, flow-below n i j hi hj))
 
   -- another row
-  elsewhere-row : (a b : ℕ) → b < n → (a ≡ i → ⊥) → getD grown (flowOf n a b) 0 ≡ getD l (flowOf n a b) 0
+  pub elsewhere-row : (a b : ℕ) → b < n → (a ≡ i → ⊥) → getD grown (flowOf n a b) 0 ≡ getD l (flowOf n a b) 0
   elsewhere-row a b hb ne = getD-set-other l (flowOf n i j) (flowOf n a b) _ 0 (λ e. ne (sym (flow-row n a b hb) ∙ ap (λ (p : ℕ). p / n) e ∙ flow-row n i j hj))
 
   -- another column

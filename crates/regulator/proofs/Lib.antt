@@ -6,5 +6,7 @@ pub mod ScaleLaws
 pub mod DiagonalLaws
 pub mod PlaceLaws
 pub mod VerdictLaws
+pub mod PeriodLaws
 pub mod BoostLaws
+pub mod GainLaws
 pub mod Examples

@@ -1,5 +1,6 @@
--- Sums of n terms: when they reach n times a limit, and when shares of a total stay within one.
-use Prim.Native.Nat.{ℕ, zero, suc, _*_, _<_, _≤_}
+-- Sums of n terms: when they reach n times a limit, when shares of a total stay within one, and that a term grows by no
+-- more than the sum does.
+use Prim.Native.Nat.{ℕ, zero, suc, _+_, _*_, _<_, _≤_}
 use mathlib.Core.Path.{_≡_, _∙_}
 use mathlib.Core.Logic.{_⊎_, ⊎-elim}
 use native.Mathlib.Nat.{le-of-mul-le-mul-right}
@@ -38,3 +39,12 @@ shares-within x d n t part none =
     let zeros : sumBelow x n ≡ 0 = sum-ext x (λ k. 0) n (λ k l. none k l (omega (arith, sum-term d n k l))) ∙ sum-zero n in
     omega arith)
     (lt-or-le 0 (sumBelow d n))
+
+-- if no term falls, none grows by more than the sum
+pub sum-gap : (x y : ℕ → ℕ) (n k : ℕ) → ((m : ℕ) → m < n → x m ≤ y m) → k < n → y k + sumBelow x n ≤ x k + sumBelow y n
+sum-gap x y zero k h l = absurd (omega arith)
+sum-gap x y (suc n) k h l =
+    ⊎-elim
+    (λ (b : k < n). omega (arith, sum-gap x y n k (λ m a. h m (omega arith)) b, h n (omega arith)))
+    (λ (b : k ≡ n). rw b (omega (arith, sum-mono x y n (λ m a. h m (omega arith)))))
+    (below-or-last k n l)

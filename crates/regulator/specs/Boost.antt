@@ -1,5 +1,6 @@
--- Boost: "for k = 0 to N − 1, for each i, the rate at (i, (i + k) mod N) grows by T less the larger of its
--- present row sum and column sum. Boost takes accepted plans only; afterwards every row and column sums to T."
+-- Boost: "for each i, the rate at (i, (i + k) mod N) grows by T less the larger of its present row sum and column
+-- sum. Boost takes accepted plans only; afterwards every row and column sums to T." Those places are diagonal k, and
+-- "Boost now takes a 32-bit period number p and goes through diagonals (p + k) mod N for k = 0 to N − 1."
 use Prim.Native.Nat.{ℕ, zero, suc, _+_, _-_, _*_, _%_, _<_, _≤_}
 use mathlib.Core.List.{List}
 use mathlib.Core.Path.{_≡_}
@@ -29,20 +30,24 @@ unfoldable pub boostDiagonal : ℕ → ℕ → ℕ → List ℕ → ℕ → List
 boostDiagonal n t k rates zero = rates
 boostDiagonal n t k rates (suc i) = boostPlace n t i (columnOn n k i) (boostDiagonal n t k rates i)
 
--- "for k = 0 to" m − 1. The order of the diagonals stands here and nowhere else.
-unfoldable pub boostDiagonals : ℕ → ℕ → List ℕ → ℕ → List ℕ
-boostDiagonals n t rates zero = rates
-boostDiagonals n t rates (suc k) = boostDiagonal n t k (boostDiagonals n t rates k) n
+-- "diagonals (p + k) mod N": the one in turn k of period p. The order of the diagonals stands here and nowhere else.
+unfoldable pub diagonalIn : ℕ → ℕ → ℕ → ℕ
+diagonalIn n p k = (p + k) % n
 
-unfoldable pub boostedOf : ℕ → ℕ → List ℕ → List ℕ
-boostedOf n t given = boostDiagonals n t given n
+-- "for k = 0 to" m − 1, in an order, which has the diagonal of each turn
+unfoldable pub boostDiagonals : ℕ → ℕ → (ℕ → ℕ) → List ℕ → ℕ → List ℕ
+boostDiagonals n t order rates zero = rates
+boostDiagonals n t order rates (suc k) = boostDiagonal n t (order k) (boostDiagonals n t order rates k) n
+
+unfoldable pub boostedOf : ℕ → ℕ → ℕ → List ℕ → List ℕ
+boostedOf n t p given = boostDiagonals n t (diagonalIn n p) given n
 
 -- "Boost takes accepted plans only"
 unfoldable pub boostVerdict : ℕ → ℕ → List ℕ → List ℕ → Verdict
 boostVerdict n t given rates = andThen (listsOf n t (length given) (length rates)) (acceptOf n t given)
 
-unfoldable pub boostOf : ℕ → ℕ → List ℕ → List ℕ → Outcome
-boostOf n t given rates = written (boostVerdict n t given rates) (boostedOf n t given) rates
+unfoldable pub boostOf : ℕ → ℕ → ℕ → List ℕ → List ℕ → Outcome
+boostOf n t p given rates = written (boostVerdict n t given rates) (boostedOf n t p given) rates
 
 -- What boost makes of an accepted plan.
 pub record Boosted (n t : ℕ) (given : List ℕ) (out : Outcome) : Type 0 where
@@ -52,6 +57,6 @@ pub record Boosted (n t : ℕ) (given : List ℕ) (out : Outcome) : Type 0 where
   pub plan : acceptOf n t (out .list) ≡ Accepted
   pub above : (place : ℕ) → getD given place 0 ≤ getD (out .list) place 0
 
--- for every accepted plan, and every output list of its length (proofs/BoostLaws.antt, boosted-plan)
+-- in every period, for every accepted plan and every output list of its length (proofs/BoostLaws.antt, boosted-plan)
 abbrev pub BoostedPlan : Type 0
-BoostedPlan = (n t : ℕ) (given rates : List ℕ) → acceptOf n t given ≡ Accepted → length rates ≡ n * n → Boosted n t given (boostOf n t given rates)
+BoostedPlan = (n t p : ℕ) (given rates : List ℕ) → acceptOf n t given ≡ Accepted → length rates ≡ n * n → Boosted n t given (boostOf n t p given rates)

@@ -1,4 +1,4 @@
-// Boost: spare slots are given out, diagonal by diagonal.
+// Boost: spare slots are given out, diagonal by diagonal; the period number says which comes first.
 ghost use mathlib.Core.Path.{_≡_};
 ghost use Prim.Native.Nat.{_*_, _<_, _≤_};
 ghost use lib.ListN.{getD};
@@ -7,7 +7,7 @@ ghost use Rattle.plan.specs.Accept.{IsPlan, withinFrame};
 ghost use Rattle.plan.specs.Lines.{flowOf};
 ghost use Rattle.regulator.specs.Outcome.{outcome};
 ghost use Rattle.regulator.specs.Sums.{LineSums};
-ghost use Rattle.regulator.specs.Boost.{columnOn, boostDiagonal, boostedOf, boostOf};
+ghost use Rattle.regulator.specs.Boost.{columnOn, boostDiagonal, diagonalIn, boostedOf, boostOf};
 use crate::lists::check_lists;
 use crate::sums::Sums;
 use crate::sums::larger;
@@ -64,19 +64,27 @@ fn boost_diagonal(n: usize, t: u32, k: usize, sums: Sums, rates: &mut [u16]) -> 
     Sums { rows, columns }
 }
 
-fn boost_diagonals(n: usize, t: u32, sums: Sums, rates: &mut [u16])
+// The diagonal in a turn of a period. The sum has 64 bits, so that no period number makes it wrap.
+fn diagonal_in(n: usize, period: u32, turn: usize) -> usize
+    requires { ⌜ (n ≤ mostPorts) × (turn < n) ⌝ }
+    ensures { λ r. ⌜ (r ≡ diagonalIn n period turn) × (r < n) ⌝ }
+{
+    (period as usize + turn) % n
+}
+
+fn boost_diagonals(n: usize, t: u32, period: u32, sums: Sums, rates: &mut [u16])
     requires { ⌜ IsPlan n t (now rates) × LineSums (now rates) n (sums .rows) (sums .columns) ⌝ }
-    ensures { λ r. ⌜ now (rates .exit) ≡ boostedOf n t (now (rates .entry)) ⌝ }
+    ensures { λ r. ⌜ now (rates .exit) ≡ boostedOf n t period (now (rates .entry)) ⌝ }
 {
     let mut sums = sums;
-    for k in 0..n {
-        sums = boost_diagonal(n, t, k, sums, rates);
+    for turn in 0..n {
+        sums = boost_diagonal(n, t, diagonal_in(n, period, turn), sums, rates);
     }
 }
 
 // Writes the given plan with its spare slots given out, and answers whether it did.
-pub fn boost(n: usize, t: u32, given: &[u16], rates: &mut [u16]) -> Verdict
-    ensures { λ r. ⌜ outcome r (now (rates .exit)) ≡ boostOf n t (now (given .entry)) (now (rates .entry)) ⌝ }
+pub fn boost(n: usize, t: u32, period: u32, given: &[u16], rates: &mut [u16]) -> Verdict
+    ensures { λ r. ⌜ outcome r (now (rates .exit)) ≡ boostOf n t period (now (given .entry)) (now (rates .entry)) ⌝ }
 {
     let verdict = check_lists(n, t, given.len(), rates.len());
     let Verdict::Accepted = verdict else {
@@ -92,6 +100,6 @@ pub fn boost(n: usize, t: u32, given: &[u16], rates: &mut [u16]) -> Verdict
         return Verdict::Refused(Refusal::ColumnAboveFrame);
     }
     copy(given, rates);
-    boost_diagonals(n, t, sums, rates);
+    boost_diagonals(n, t, period, sums, rates);
     verdict
 }

@@ -4,6 +4,7 @@ use super::{plan_file, Inputs};
 use crate::check::calls;
 use crate::check::guarded::Guarded;
 use crate::check::plans;
+use crate::check::same::same;
 use crate::check::texts::{PlanText, WRITINGS};
 use crate::model::plan::MOST_PORTS;
 use crate::model::{Multiplexer, Switch};
@@ -59,7 +60,7 @@ impl<S: Operations> Inputs<'_, S> {
         if frame > 0 {
             lists.push(plans::accepted(self.random, ports, u32::from(frame)));
             let accepted = plans::accepted(self.random, ports, u32::from(frame));
-            lists.push(plans::boosted(ports, u32::from(frame), &accepted));
+            lists.push(plans::boosted(ports, u32::from(frame), self.random.period(), &accepted));
             lists.push(accepted[1..].to_vec());
             lists.push([&accepted[..], &[0]].concat());
         }
@@ -73,9 +74,44 @@ impl<S: Operations> Inputs<'_, S> {
                     self.accept(ports, frame, &list)?;
                     for out_length in [list.len(), list.len() + 1, list.len().saturating_sub(1), 0] {
                         self.scale(ports, frame, &list, out_length)?;
-                        self.boost(ports, frame, &list, out_length)?;
+                        let period = self.random.period();
+                        self.boost(ports, frame, period, &list, out_length)?;
                     }
                 }
+            }
+        }
+        Ok(())
+    }
+
+    /// Every order of the diagonals, by periods from both ends of the 32 bits and around 2^16 and 2^31.
+    pub fn period_edges(&mut self) -> Result<(), String> {
+        for ports in 1..=MOST_PORTS {
+            for middle in [0, 1 << 16, 1 << 31, u32::MAX] {
+                for period in middle.saturating_sub(20)..=middle.saturating_add(20) {
+                    let frame = self.random.pick(&[1, 6, 64, 4096]);
+                    let plan = plans::scaled(self.random, ports, frame);
+                    self.boost(ports, frame, period, &plan, plan.len())?;
+                }
+            }
+        }
+        Ok(())
+    }
+
+    /// A plan of no services shows which diagonal is first: its flows get the whole frame. In any N periods that follow
+    /// one another, the last of 32 bits among them, it is another one each time.
+    pub fn fair_start(&mut self) -> Result<(), String> {
+        for ports in 1..=MOST_PORTS {
+            for begin in [0, 1, self.random.next() as u32 >> 1, u32::MAX - (ports as u32 - 1)] {
+                let mut firsts: Vec<usize> = Vec::new();
+                for turn in 0..ports as u32 {
+                    let mut rates = vec![0; ports * ports];
+                    S::boost(ports, 5, begin + turn, &vec![0; ports * ports], &mut rates);
+                    self.tally.inputs += 1;
+                    firsts.extend(rates[..ports].iter().position(|&rate| rate == 5));
+                }
+                firsts.sort();
+                same("which diagonals are first", &firsts, &(0..ports).collect())
+                    .map_err(|what| format!("boost N {ports} from period {begin} on: {what}"))?;
             }
         }
         Ok(())

@@ -34,7 +34,8 @@ impl<S: Operations> Inputs<'_, S> {
         let rates = self.random_rates(ports, frame);
         self.accept(ports, frame, &rates)?;
         let out_length = ports * ports + usize::from(self.random.one_in(20));
-        self.boost(ports, frame, &rates, out_length)?;
+        let period = self.random.period();
+        self.boost(ports, frame, period, &rates, out_length)?;
         self.scale(ports, frame, &rates, out_length)?;
         let most = self.random.pick(&[1, 10, 1000, u16::MAX]);
         let demands = self.random.rates(ports * ports, most);

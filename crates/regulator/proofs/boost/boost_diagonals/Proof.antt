@@ -5,56 +5,54 @@ use native.Mathlib.Omega.{arith}
 use denote.Ref.{now}
 use Rattle.plan.specs.Accept.{IsPlan}
 use Rattle.regulator.specs.Sums.{LineSums}
-use Rattle.regulator.specs.Boost.{boostDiagonals, boostedOf}
+use Rattle.regulator.specs.Boost.{diagonalIn, boostDiagonals, boostedOf}
 use Rattle.regulator.proofs.BoostLaws.{diagonal-turn}
 use Rattle.regulator.proofs.boost.boost_diagonals.Statement.{statement}
 use Rattle.regulator.proofs.boost.boost_diagonals.Tie as tie
 
 abbrev Inv-loop : tie.InvT-loop
-Inv-loop n t rates₀ sums₀ k₀ rates sums k =
-    (k ≤ n) × IsPlan n t rates × LineSums rates n (sums .rows) (sums .columns) × (rates ≡ boostDiagonals n t rates₀ k)
+Inv-loop n t period rates₀ sums₀ turn₀ rates sums turn =
+    (turn ≤ n) × IsPlan n t rates × LineSums rates n (sums .rows) (sums .columns) × (rates ≡ boostDiagonals n t (diagonalIn n period) rates₀ turn)
 
 abbrev μ-loop : tie.MeasureT-loop
-μ-loop n t rates₀ sums₀ k₀ rates sums k = n - k
+μ-loop n t period rates₀ sums₀ turn₀ rates sums turn = n - turn
 
--- src/boost.rt:78:5
 loop-holds : tie.Need-loop-holds Inv-loop μ-loop
 unfolding boostDiagonals
 loop-holds c = (search needs, c .before .pre .0, c .before .pre .1, refl)
 
--- src/boost.rt:79:9
+diagonal-in-requires : tie.Need-diagonal-in-requires Inv-loop μ-loop
+diagonal-in-requires c κs = search needs
+
 boost-diagonal-requires : tie.Need-boost-diagonal-requires Inv-loop μ-loop
 boost-diagonal-requires c κs = search needs
 
--- src/boost.rt:78:9
-add-k : tie.Need-add-k Inv-loop μ-loop
-add-k c = search needs
+add-turn : tie.Need-add-turn Inv-loop μ-loop
+add-turn c = search needs
 
--- src/boost.rt:78:5
 loop-less : tie.Need-loop-less Inv-loop μ-loop
 loop-less c = search needs
 
--- src/boost.rt:78:5
 loop-again : tie.Need-loop-again Inv-loop μ-loop
 loop-again c =
-    let at = c .before .before .before .before .before .loop in
-    let a = c .before .before .before .before .before .before .before .args in
+    let at = c .before .before .before .before .before .before .loop in
+    let a = c .before .before .before .before .before .before .before .before .args in
     let done = c .before .before .boost-diagonal .ensures in
-    let more = diagonal-turn (a .n) (a .t) (at .k) (now (a .rates)) (at .rates) _ (at .inv .1) (at .inv .3) (done .0) in
+    let d = c .before .before .before .before .diagonal-in in
+    let more = diagonal-turn (a .n) (a .t) (diagonalIn (a .n) (a .period)) (at .turn) (d .result) (now (a .rates)) (at .rates) _ (at .inv .1) (at .inv .3)
+    (d .ensures .0) (done .0) in
     (omega arith, more .0, done .1, more .1)
 
--- src/boost.rt:73:1
 same-length : tie.Need-same-length Inv-loop μ-loop
 same-length c = omega (arith, c .before .loop .inv .1 .square, c .before .before .before .pre .0 .square)
 
--- src/boost.rt:73:1
 returns : tie.Need-returns Inv-loop μ-loop
 unfolding boostedOf
 returns c =
     let at = c .before .loop in
     let a = c .before .before .before .args in
-    let e : at .k ≡ a .n = omega arith in
-    at .inv .3 ∙ ap (boostDiagonals (a .n) (a .t) (now (a .rates))) e
+    let e : at .turn ≡ a .n = omega arith in
+    at .inv .3 ∙ ap (boostDiagonals (a .n) (a .t) (diagonalIn (a .n) (a .period)) (now (a .rates))) e
 
 pub boost-diagonals-spec : {M : Type 1} → statement M
 boost-diagonals-spec =
@@ -63,8 +61,9 @@ boost-diagonals-spec =
     Inv-loop
     μ-loop
     loop-holds
+    diagonal-in-requires
     boost-diagonal-requires
-    add-k
+    add-turn
     loop-less
     loop-again
     same-length
