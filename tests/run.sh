@@ -1,6 +1,6 @@
 #!/usr/bin/env bash
 # The tests beside the proofs: the programs on plan files and texts, the model's test of itself, installing the library, the
-# header and the example in C and C++, and the comparison of the proved library with the model. Usage: tests/run.sh [SLOTS
+# header and the examples in C and C++, and the comparison of the proved library with the model. Usage: tests/run.sh [SLOTS
 # [SEED]], how many slots are compared, and where random numbers begin.
 set -euo pipefail
 cd "$(dirname "$0")/.."
