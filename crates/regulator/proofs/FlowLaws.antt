@@ -41,7 +41,7 @@ pub column-mono : (l m : List ℕ) (n j : ℕ) → ((p : ℕ) → getD l p 0 ≤
 unfolding columnSum
 column-mono l m n j h = sum-mono _ _ n (λ i b. h (flowOf n i j))
 
--- and of what a flow can gain by it
+-- and then no rate grows by more than its row, or its column
 pub gain-row : (l m : List ℕ) (n i j : ℕ) → ((p : ℕ) → getD l p 0 ≤ getD m p 0) → j < n → getD m (flowOf n i j) 0 + rowSum l n i ≤ getD l (flowOf n i j) 0 + rowSum m n i
 unfolding rowSum
 gain-row l m n i j h = sum-gap (λ b. getD l (flowOf n i b) 0) (λ b. getD m (flowOf n i b) 0) n j (λ b hb. h (flowOf n i b))
