@@ -1,10 +1,11 @@
-//! What a slot, an arrival, a load, a choice and reading a text cost: the proved library through its C interface, the
-//! model by value and the model in place, timed in turn in one run. For a slot also a switch that does less, for a text
-//! a reader that goes through the bytes once.
+//! What a slot, an arrival, a load, a choice, reading a text and boosting a plan cost: the proved library through its C
+//! interface, the model by value and the model in place, timed in turn in one run. For a slot also a switch that does
+//! less; for a text and for boost plain Rust that goes about it as the library does.
 //!
 //! `bench/run.sh` builds and runs it. With PORTS FRAME REPEATS it times one size, each batch that many times: for a
 //! profiler.
 
+mod boost;
 mod calls;
 mod choice;
 mod clock;
@@ -44,6 +45,15 @@ fn time_all(ports: usize, frame: u32, repeats: usize) {
     report(&format!("load, {size}"), calls::load_times(&workload, repeats));
     report(&format!("choice, {size}"), choice::choice_times(&workload, repeats));
     time_text(&workload, repeats);
+    time_boost(&workload, "periods from 0 on", 0, repeats);
+    time_boost(&workload, "the last periods of 32 bits", boost::LAST, repeats);
+}
+
+fn time_boost(workload: &Workload, periods: &str, first: u32, repeats: usize) {
+    let [proved, sums_kept, model] = boost::boost_times(workload, first, repeats);
+    report_proved(&format!("boost, N = {}, T = {}, {periods}", workload.ports, workload.frame), proved);
+    report_other("plain Rust, sums kept", sums_kept, proved);
+    report_other("model, which adds up lines each time", model, proved);
 }
 
 fn time_text(workload: &Workload, repeats: usize) {

@@ -66,12 +66,17 @@ pub fn fill_queues(state: &mut Switch, cells: usize) {
     }
 }
 
-/// Uneven demands, scaled and boosted.
-fn full_plan(ports: usize, frame: u32) -> Vec<u16> {
+/// Uneven demands, scaled.
+pub fn scaled_plan(ports: usize, frame: u32) -> Vec<u16> {
     let demands: Vec<u16> = (0..ports * ports).map(|flow| 1 + (flow * 37 % 23) as u16).collect();
     let mut scaled = vec![0; ports * ports];
-    let mut boosted = vec![0; ports * ports];
     regulator::scale(ports, frame, &demands, &mut scaled).expect("the demands have the right shape");
-    regulator::boost(ports, frame, 0, &scaled, &mut boosted).expect("a scaled plan is accepted");
+    scaled
+}
+
+/// And boosted.
+fn full_plan(ports: usize, frame: u32) -> Vec<u16> {
+    let mut boosted = vec![0; ports * ports];
+    regulator::boost(ports, frame, 0, &scaled_plan(ports, frame), &mut boosted).expect("a scaled plan is accepted");
     boosted
 }
