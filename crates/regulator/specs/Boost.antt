@@ -39,6 +39,7 @@ unfoldable pub boostDiagonals : ℕ → ℕ → (ℕ → ℕ) → List ℕ → �
 boostDiagonals n t order rates zero = rates
 boostDiagonals n t order rates (suc k) = boostDiagonal n t (order k) (boostDiagonals n t order rates k) n
 
+-- all N of them, in the order of period p
 unfoldable pub boostedOf : ℕ → ℕ → ℕ → List ℕ → List ℕ
 boostedOf n t p given = boostDiagonals n t (diagonalIn n p) given n
 
