@@ -9,6 +9,8 @@ use crate::workload::{scaled_plan, Workload};
 use std::hint::black_box;
 
 const BOOSTS: usize = 1024;
+/// The last period that a figure can begin with.
+pub const LAST: u32 = u32::MAX - (BOOSTS as u32 - 1);
 
 type Booster = fn(usize, u32, u32, &[u16], &mut [u16]) -> bool;
 
@@ -31,9 +33,6 @@ pub fn boost_times(workload: &Workload, first: u32, repeats: usize) -> [f64; 3] 
         times
     })
 }
-
-/// The last period that a figure can begin with.
-pub const LAST: u32 = u32::MAX - (BOOSTS as u32 - 1);
 
 fn proved(ports: usize, frame: u32, period: u32, given: &[u16], rates: &mut [u16]) -> bool {
     Library::boost(ports, frame, period, given, rates) == 0

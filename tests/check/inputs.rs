@@ -104,7 +104,8 @@ impl<S: Operations> Inputs<'_, S> {
         let subject = S::boost(ports, frame, period, given, subject_out.list_mut());
         let model = Model::boost(ports, frame, period, given, model_out.list_mut());
         self.seen(model);
-        let promised = || if subject == 0 { boosted(ports, frame, period, given, subject_out.list()) } else { Ok(()) };
+        let promised =
+            || if subject == 0 { judge_boosted(ports, frame, period, given, subject_out.list()) } else { Ok(()) };
         same_verdict(subject, model)
             .and_then(|()| same_list(&subject_out, &model_out))
             .and_then(|()| promised())
@@ -216,7 +217,7 @@ impl<S: Operations> Inputs<'_, S> {
 }
 
 /// What is promised of a boosted plan, judged by the two lists alone.
-fn boosted(ports: usize, frame: u32, period: u32, given: &[u16], list: &[u16]) -> Result<(), String> {
+fn judge_boosted(ports: usize, frame: u32, period: u32, given: &[u16], list: &[u16]) -> Result<(), String> {
     let mut lines = (0..ports).map(|line| (row_sum(ports, list, line), column_sum(ports, list, line)));
     let all_full = lines.all(|sums| sums == (frame, frame));
     let none_falls = list.iter().zip(given).all(|(rate, before)| rate >= before);

@@ -3,11 +3,11 @@
 use Prim.Native.Nat.{ℕ, zero, suc, _+_, _-_, _%_, _<_, _≤_}
 use mathlib.Core.Path.{_≡_, refl, sym, ap, _∙_}
 use mathlib.Core.List.{List}
-use native.Mathlib.Nat.{zero-add, add-zero, mod-lt, mod-add-mod, add-mod-right, mod-eq-of-lt}
+use native.Mathlib.Nat.{zero-add, add-zero, mod-lt, mod-add-mod, mod-eq-of-lt}
 use native.Mathlib.Omega.{arith}
 use Rattle.regulator.specs.Boost.{columnOn, diagonalIn, boostDiagonals, boostedOf, boostOf}
 use Rattle.regulator.specs.Period.{PeriodZero, PeriodRemainder, FairStart}
-use Rattle.regulator.proofs.DiagonalLaws.{diagonalOf, diagonal-below, on-diagonal}
+use Rattle.regulator.proofs.DiagonalLaws.{diagonalOf, diagonal-below, on-diagonal, diagonal-only}
 
 pub in-below : (n period k : ℕ) → 1 ≤ n → diagonalIn n period k < n
 unfolding diagonalIn
@@ -28,14 +28,9 @@ in-turn n period d h = sym (mod-add-mod period n (turnOf n period d)) ∙ on-dia
 
 -- it has no other
 pub turn-only : (n period k : ℕ) → k < n → turnOf n period (diagonalIn n period k) ≡ k
-unfolding diagonalIn turnOf diagonalOf
+unfolding diagonalIn turnOf columnOn
 turn-only n period k h =
-    let below = mod-lt period {m = n} (omega arith) in
-    let back = n - period % n in
-    let round : period % n + (k + back) ≡ k + n = omega (arith, below) in
-    let apart : period + k + back ≡ period + (k + back) = omega arith in
-    mod-add-mod (period + k) n back ∙ ap (λ (x : ℕ). x % n) apart ∙ sym (mod-add-mod period n (k + back)) ∙ ap (λ (x : ℕ). x % n) round
-    ∙ add-mod-right k n ∙ mod-eq-of-lt h
+    ap (diagonalOf n (period % n)) (sym (mod-add-mod period n k)) ∙ diagonal-only n (period % n) k (mod-lt period (omega arith)) h
 
 -- Who is first.
 
