@@ -4,10 +4,12 @@
 //! - it checks nothing: it never gives number 12, 7 or 13, and is right only after an accepted start;
 //! - it has no waiting plan, so no takeover;
 //! - it keeps each flow's next deadline beside its count, and divides only for a flow that was served;
+//! - it sorts each port's flows by rate once, so that a tie goes to the first of them;
 //! - it copies no record, and writes its answers where the caller wants them.
 
 use crate::model::plan::{MOST_FLOWS, MOST_PORTS};
 use crate::model::{Crosspoint, Multiplexer, Port, Queue, SlotAnswer, Switch};
+use std::cmp::Reverse;
 
 pub struct UncheckedSwitch {
     ports: usize,
@@ -20,9 +22,11 @@ pub struct UncheckedSwitch {
     heads: [Deadlines; MOST_PORTS],
 }
 
-/// One port's multiplexer. All 16 places are looked at, whatever N is: the compiler makes vector code of that.
+/// One port's multiplexer. Each place is a flow's, the larger rate before the smaller, the lower number before the higher.
+/// All 16 places are looked at, whatever N is: the compiler makes vector code of that.
 #[derive(Clone, Copy)]
 struct Deadlines {
+    flows: [u8; MOST_PORTS],
     rates: [u16; MOST_PORTS],
     served: [u16; MOST_PORTS],
     /// The first slot in which the flow is eligible again.
@@ -35,17 +39,17 @@ struct Deadlines {
 /// Later than any slot.
 const NEVER: i16 = i16::MAX;
 
-/// The smaller deadline has the lower rank, and of equal ones the lower flow. An eligible flow's deadline is 1 to
+/// The smaller deadline has the lower rank, and of equal ones the lower place. An eligible flow's deadline is 1 to
 /// 4,096, so that both fit 16 bits; they are signed, since plain x86-64 has a vector minimum for these only.
-fn rank(deadline: u32, flow: usize) -> i16 {
-    (((deadline - 1) << 4) | flow as u32) as i16 ^ i16::MIN
+fn rank(deadline: u32, place: usize) -> i16 {
+    (((deadline - 1) << 4) | place as u32) as i16 ^ i16::MIN
 }
 
 fn deadline_of(rank: i16) -> i16 {
     ((rank ^ i16::MIN) as u16 >> 4) as i16 + 1
 }
 
-fn flow_of(rank: i16) -> usize {
+fn place_of(rank: i16) -> usize {
     (rank & 15) as usize
 }
 
@@ -53,21 +57,25 @@ fn flow_of(rank: i16) -> usize {
 #[inline(always)]
 fn lowest(mut ranks: [i16; MOST_PORTS]) -> i16 {
     for half in [8, 4, 2, 1] {
-        for flow in 0..half {
-            ranks[flow] = ranks[flow].min(ranks[flow + half]);
+        for place in 0..half {
+            ranks[place] = ranks[place].min(ranks[place + half]);
         }
     }
     ranks[0]
 }
 
 impl Deadlines {
-    /// At the frame's begin.
+    /// At the frame's begin, from the rates by flow.
     fn new(rates: [u16; MOST_PORTS], frame: u32) -> Deadlines {
-        let first_ranks = std::array::from_fn(|flow| match rates[flow] {
+        let mut flows: [u8; MOST_PORTS] = std::array::from_fn(|flow| flow as u8);
+        flows.sort_by_key(|flow| Reverse(rates[usize::from(*flow)]));
+        let rates = flows.map(|flow| rates[usize::from(flow)]);
+        let first_ranks = std::array::from_fn(|place| match rates[place] {
             0 => NEVER,
-            rate => rank(frame.div_ceil(u32::from(rate)), flow),
+            rate => rank(frame.div_ceil(u32::from(rate)), place),
         });
         let mut port = Deadlines {
+            flows,
             rates,
             served: [0; MOST_PORTS],
             eligible_from: [NEVER; MOST_PORTS],
@@ -84,21 +92,35 @@ impl Deadlines {
         self.ranks = self.first_ranks;
     }
 
-    /// The highest rank stands for an idle port and for flow 15 at the last deadline; that flow's slot tells which.
+    /// The flow that the slot goes to, counted.
+    #[inline(always)]
+    fn serve(&mut self, slot: u32, frame: u32) -> Option<usize> {
+        let place = self.choose(slot)?;
+        self.count(place, frame);
+        Some(usize::from(self.flows[place]))
+    }
+
+    /// The highest rank stands for an idle port and for place 15 at the last deadline; that place's slot tells which.
     #[inline(always)]
     fn choose(&self, slot: u32) -> Option<usize> {
         let slot = slot as i16;
-        let eligible_rank = |flow| if self.eligible_from[flow] <= slot { self.ranks[flow] } else { i16::MAX };
-        let chosen = flow_of(lowest(std::array::from_fn(eligible_rank)));
+        let eligible_rank = |place| if self.eligible_from[place] <= slot { self.ranks[place] } else { i16::MAX };
+        let chosen = place_of(lowest(std::array::from_fn(eligible_rank)));
         (self.eligible_from[chosen] <= slot).then_some(chosen)
     }
 
     /// A flow is eligible again from the deadline that it just met.
-    fn count(&mut self, flow: usize, frame: u32) {
-        self.served[flow] += 1;
-        let next = (u32::from(self.served[flow]) + 1) * frame;
-        self.eligible_from[flow] = deadline_of(self.ranks[flow]);
-        self.ranks[flow] = rank(next.div_ceil(u32::from(self.rates[flow])), flow);
+    #[inline(always)]
+    fn count(&mut self, place: usize, frame: u32) {
+        self.served[place] += 1;
+        let next = (u32::from(self.served[place]) + 1) * frame;
+        self.eligible_from[place] = deadline_of(self.ranks[place]);
+        self.ranks[place] = rank(next.div_ceil(u32::from(self.rates[place])), place);
+    }
+
+    /// Whether each flow was served as often as in the model.
+    fn equals(&self, multiplexer: &Multiplexer) -> bool {
+        self.flows.iter().zip(&self.served).all(|(flow, served)| multiplexer.served[usize::from(*flow)] == *served)
     }
 }
 
@@ -138,8 +160,7 @@ impl UncheckedSwitch {
     }
 
     fn serve_board(&mut self, input: usize, store: &[u32]) -> Port {
-        let Some(output) = self.boards[input].choose(self.slot) else { return Port::Idle };
-        self.boards[input].count(output, self.frame);
+        let Some(output) = self.boards[input].serve(self.slot, self.frame) else { return Port::Idle };
         let flow = input * self.ports + output;
         let queue = &mut self.queues[flow];
         if queue.count == 0 {
@@ -155,8 +176,7 @@ impl UncheckedSwitch {
     }
 
     fn serve_head(&mut self, output: usize) -> Port {
-        let Some(input) = self.heads[output].choose(self.slot) else { return Port::Idle };
-        self.heads[output].count(input, self.frame);
+        let Some(input) = self.heads[output].serve(self.slot, self.frame) else { return Port::Idle };
         let crosspoint = &mut self.crosspoints[input * self.ports + output];
         if crosspoint.count == 0 {
             return Port::Empty { other: input };
@@ -187,7 +207,7 @@ impl UncheckedSwitch {
     /// Whether a state of the model has the same slot, queues, crosspoints and service counts.
     pub fn equals(&self, state: &Switch) -> bool {
         let same = |ports: &[Deadlines; MOST_PORTS], multiplexers: &[Multiplexer; MOST_PORTS]| {
-            ports.iter().zip(multiplexers).all(|(port, multiplexer)| port.served == multiplexer.served)
+            ports.iter().zip(multiplexers).all(|(port, multiplexer)| port.equals(multiplexer))
         };
         self.slot == state.slot
             && self.queues == state.queues

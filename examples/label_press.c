@@ -1,7 +1,7 @@
 /*
- * One frame of a press with three boards and three heads, by nothing but gambyre.h and libgambyre.a. It reads the plan
- * below and follows its flow (2, 1), which has 3 of the frame's 15 slots: what its board and its head do, slot by slot,
- * and how many cells stand at its crosspoint.
+ * One frame of a press with two boards and two heads, by nothing but gambyre.h and libgambyre.a. It reads the plan below
+ * and follows its flow (0, 0), which has 3 of the frame's 9 slots: what its board and its head do, slot by slot, and how
+ * many cells stand at its crosspoint. It is the flow of docs/two_cells.svg.
  *
  *     rt staticlib gambyre
  *     gcc -std=c99 -Wall -Wextra -O2 -I include examples/label_press.c target/staticlib/libgambyre.a -o target/label_press
@@ -14,12 +14,11 @@
 #include <stdio.h>
 #include <stdlib.h>
 
-enum { N = 3, T = 15, Q = 4, BOARD = 2, HEAD = 1, FLOW = BOARD * N + HEAD };
+enum { N = 2, T = 9, Q = 4, BOARD = 0, HEAD = 0, FLOW = BOARD * N + HEAD };
 
 /* The plan as a spreadsheet saves it: a line for each board, the slots that it has for each head. */
-static const char plan[] = "13,2,0\r\n"
-                           "1,10,4\r\n"
-                           "1,3,11\r\n";
+static const char plan[] = "3,4\r\n"
+                           "5,2\r\n";
 
 /* The host keeps both; the library keeps nothing between two calls. */
 static gambyre_switch state;

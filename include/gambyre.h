@@ -47,9 +47,9 @@
 #include <stdint.h>
 
 /* The version of this header. The archive is of the same one if gambyre_version() == GAMBYRE_VERSION_NUMBER. */
-#define GAMBYRE_VERSION "0.11.0"
+#define GAMBYRE_VERSION "0.12.0"
 #define GAMBYRE_VERSION_MAJOR 0
-#define GAMBYRE_VERSION_MINOR 11
+#define GAMBYRE_VERSION_MINOR 12
 #define GAMBYRE_VERSION_PATCH 0
 #define GAMBYRE_VERSION_NUMBER (GAMBYRE_VERSION_MAJOR * 10000 + GAMBYRE_VERSION_MINOR * 100 + GAMBYRE_VERSION_PATCH)
 
@@ -334,7 +334,8 @@ GAMBYRE_MUST_USE gambyre_verdict gambyre_read_text(size_t n, uint32_t t, const u
 /*
  * The choice of a port in a slot of a frame. A flow of rate a > 0 that was served k times is eligible if
  * k * frame <= slot * a. The slot goes to the eligible flow with the smallest deadline, (k + 1) * frame / a rounded
- * up, and of equal ones to the lowest number. Only the first 16 rates count.
+ * up, of equal ones to that with the largest rate, and of equal rates to the lowest number. (Up to version 0.11 equal
+ * deadlines went to the lowest number, whatever the rates.) Only the first 16 rates count.
  */
 GAMBYRE_MUST_USE gambyre_choice gambyre_choose(gambyre_multiplexer multiplexer, const uint16_t *rates, size_t rates_len,
                                                uint32_t frame, uint32_t slot);

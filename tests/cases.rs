@@ -6,7 +6,9 @@ use crate::operations::{Operations, PortReply};
 
 pub fn all<S: Operations>() {
     c1_and_c2_choices::<S>();
-    c3_crossing_fills::<S>();
+    ties::<S>();
+    c3_one_cell::<S>();
+    l4_two_cells::<S>();
     c4_scale::<S>();
     c5_boost::<S>();
     last_periods::<S>();
@@ -45,33 +47,64 @@ pub fn c1_and_c2_choices<S: Operations>() {
     assert_eq!(frame_choices::<S>(&[2, 3, 1], 6).join(" "), "1 0 1 0 1 2", "C2");
 }
 
-pub fn c3_crossing_fills<S: Operations>() {
-    const FLOW: usize = 2 * 3 + 1;
-    let mut store = vec![0; 9 * 4];
-    let mut state = start::<S>(3, C3_FRAME, &C3_PLAN, 4, &store);
-    let (mut board_slots, mut head_slots, mut empty_slots, mut held) = (vec![], vec![], vec![], vec![]);
-    for slot in 0..C3_FRAME {
-        for _ in state.queues[FLOW].count..4 {
-            state = arrive::<S>(&state, &mut store, 2, 1, slot);
-        }
-        let reply = S::step(&state, &store);
-        assert_eq!(reply.verdict, 0, "C3");
-        if reply.moves[2].kind != 0 && reply.moves[2].other == 1 {
-            board_slots.push(slot);
-        }
-        if reply.sends[1].kind != 0 && reply.sends[1].other == 2 {
-            head_slots.push(slot);
-            if reply.sends[1].kind == 1 {
-                empty_slots.push(slot);
+/// L4's rule by itself, worked by hand: in slot 1 a tie of equal rates, in slot 2 one of rates 1 and 2.
+pub fn ties<S: Operations>() {
+    assert_eq!(frame_choices::<S>(&[1, 1, 2], 4).join(" "), "2 0 2 1", "L4");
+}
+
+/// Under the rule before L4 output 1 served in slot 13 in place of 10, and two cells lay in the crosspoint after slot 12.
+pub fn c3_one_cell<S: Operations>() {
+    let followed = Followed::frame::<S>(3, C3_FRAME, &C3_PLAN, 2, 1);
+    assert_eq!(followed.board_slots, [1, 8, 12], "C3");
+    assert_eq!(followed.head_slots, [1, 7, 10], "C3");
+    assert_eq!(followed.empty_slots, [7], "C3");
+    assert_eq!(followed.held[12], 1, "C3");
+}
+
+pub fn l4_two_cells<S: Operations>() {
+    let followed = Followed::frame::<S>(2, 9, &[3, 4, 5, 2], 0, 0);
+    assert_eq!(followed.board_slots, [1, 4, 6], "L4");
+    assert_eq!(followed.head_slots, [1, 3, 7], "L4");
+    assert_eq!(followed.empty_slots, [3], "L4");
+    assert_eq!(followed.held, [0, 0, 0, 0, 1, 1, 2, 1, 1], "L4");
+}
+
+/// The services of one flow that always has a cell waiting, and the cells in its crosspoint after each slot of a frame.
+#[derive(Default)]
+struct Followed {
+    board_slots: Vec<u32>,
+    head_slots: Vec<u32>,
+    empty_slots: Vec<u32>,
+    held: Vec<u8>,
+}
+
+impl Followed {
+    fn frame<S: Operations>(ports: usize, frame: u32, plan: &[u16], input: usize, output: usize) -> Followed {
+        const DEPTH: usize = 4;
+        let flow = input * ports + output;
+        let mut store = vec![0; ports * ports * DEPTH];
+        let mut state = start::<S>(ports, frame, plan, DEPTH, &store);
+        let mut followed = Followed::default();
+        for slot in 0..frame {
+            for _ in usize::from(state.queues[flow].count)..DEPTH {
+                state = arrive::<S>(&state, &mut store, input, output, slot);
             }
+            let reply = S::step(&state, &store);
+            assert_eq!(reply.verdict, 0, "slot {slot}");
+            if reply.moves[input].kind != 0 && reply.moves[input].other == output {
+                followed.board_slots.push(slot);
+            }
+            if reply.sends[output].kind != 0 && reply.sends[output].other == input {
+                followed.head_slots.push(slot);
+                if reply.sends[output].kind == 1 {
+                    followed.empty_slots.push(slot);
+                }
+            }
+            state = reply.state;
+            followed.held.push(state.crosspoints[flow].count);
         }
-        state = reply.state;
-        held.push(state.crosspoints[FLOW].count);
+        followed
     }
-    assert_eq!(board_slots, [1, 8, 12], "C3");
-    assert_eq!(head_slots, [1, 7, 13], "C3");
-    assert_eq!(empty_slots, [7], "C3");
-    assert_eq!((held[12], held[13]), (2, 1), "C3");
 }
 
 pub fn c4_scale<S: Operations>() {
@@ -192,9 +225,9 @@ pub fn c11_limits<S: Operations>() {
     assert_eq!(S::accept(1, 4097, &[4096]), 2, "C11");
 }
 
-/// Worked by hand. In slots 0 and 9 the deadlines are 11 / 4 and 11 / 5, then both 11: ties once rounded up.
+/// Worked by hand. In slot 8 the deadlines are 48 / 5 and 60 / 6: a tie once rounded up, so the smaller quotient waits.
 pub fn deadlines_round_up<S: Operations>() {
-    assert_eq!(frame_choices::<S>(&[4, 5], 11).join(" "), "0 1 - 1 0 1 0 1 - 0 1");
+    assert_eq!(frame_choices::<S>(&[5, 6], 12).join(" "), "1 0 1 0 1 0 1 - 1 0 1 0");
 }
 
 /// A plan loaded in mid-frame takes over in the next slot 0 and leaves no trace in the waiting place.

@@ -2,6 +2,7 @@
 #![allow(dead_code)] // each program that takes this module in uses its own part of it
 
 pub mod calls;
+pub mod choices;
 pub mod guarded;
 pub mod handmade;
 pub mod inputs;

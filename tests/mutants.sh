@@ -25,7 +25,10 @@ try() {
 }
 
 try unedited multiplexer.rs ''
-try "a tie goes to the highest number" multiplexer.rs 's/deadline < smallest/deadline <= smallest/'
+try "a tie goes to the smaller rate" multiplexer.rs 's/Reverse(rate)/Reverse(u64::MAX - rate)/'
+try "a tie goes to the lowest number, whatever the rates" multiplexer.rs 's/Reverse(rate)/Reverse(0)/'
+try "a tie of equal rates goes to the highest number" multiplexer.rs 's/place < first/(place.0, place.1) <= (first.0, first.1)/'
+try "the larger rate before the smaller deadline" multiplexer.rs 's/place < first/(place.1, place.0, place.2) < (first.1, first.0, first.2)/'
 try "deadlines compared before rounding up" multiplexer.rs 's/((served + 1) \* frame).div_ceil(rate)/((served + 1) * frame << 24) \/ rate/'
 try "sending before moving" switch.rs 's/self.move_cells(&choices, store, &mut answer);/SWAP/; s/self.send_cells(&choices, &mut answer);/self.move_cells(\&choices, store, \&mut answer);/; s/SWAP/self.send_cells(\&choices, \&mut answer);/'
 try "takeover in mid-frame" switch.rs 's/self.plan_waits() && self.slot == 0/self.plan_waits()/'

@@ -5,6 +5,7 @@ mod samples;
 mod texts;
 
 use super::calls::Outcome;
+use super::choices::judge;
 use super::guarded::Guarded;
 use super::random::Random;
 use super::same::{same, same_list, same_state, same_verdict, told, told_text};
@@ -36,6 +37,7 @@ pub fn compare<S: Operations>(rounds: usize, random: &mut Random, tally: &mut Ta
         inputs.random_plan()?;
         inputs.random_desk_view()?;
         inputs.random_choice()?;
+        inputs.random_tie()?;
         inputs.random_frame()?;
         inputs.random_start()?;
         inputs.random_file()?;
@@ -162,6 +164,7 @@ impl<S: Operations> Inputs<'_, S> {
         let subject = S::choose(multiplexer, rates, frame, slot);
         self.tally.inputs += 1;
         same("choice", &subject, &Model::choose(multiplexer, rates, frame, slot))
+            .and_then(|()| judge(subject.flow(), rates, multiplexer, frame, slot, &mut self.tally.ties))
             .map_err(|what| format!("choose, {multiplexer:?}, rates {} T {frame} slot {slot}: {what}", told(rates)))?;
         Ok(subject)
     }

@@ -4,15 +4,16 @@ use super::random::Random;
 use crate::model::plan::{column_sum, row_sum};
 use crate::model::regulator;
 
-/// Sparse, scaled and boosted plans, permutations, even shares and the plan of no services.
+/// Sparse, scaled and boosted plans, permutations, even shares, multiples of one rate and the plan of no services.
 pub fn accepted(random: &mut Random, ports: usize, frame: u32) -> Vec<u16> {
-    match random.below(8) {
+    match random.below(10) {
         0 => permutation(random, ports, frame),
         1 => vec![(frame as usize / ports) as u16; ports * ports],
         2 if random.one_in(3) => vec![0; ports * ports],
         2 | 3 => sparse(random, ports, frame),
         4 => scaled(random, ports, frame),
         5 => boosted(ports, frame, random.period(), &sparse(random, ports, frame)),
+        6 | 7 => multiples(random, ports, frame),
         _ => boosted(ports, frame, random.period(), &scaled(random, ports, frame)),
     }
 }
@@ -64,16 +65,37 @@ fn sparse(random: &mut Random, ports: usize, frame: u32) -> Vec<u16> {
 }
 
 fn permutation(random: &mut Random, ports: usize, frame: u32) -> Vec<u16> {
-    let mut outputs: Vec<usize> = (0..ports).collect();
-    for last in (1..ports).rev() {
-        outputs.swap(last, random.below(last + 1));
-    }
+    let outputs = random_order(random, ports);
     let rate = if random.flip() { frame } else { random.below(frame as usize + 1) as u32 };
     let mut rates = vec![0; ports * ports];
     for (input, output) in outputs.into_iter().enumerate() {
         rates[input * ports + output] = rate as u16;
     }
     rates
+}
+
+fn random_order(random: &mut Random, ports: usize) -> Vec<usize> {
+    let mut order: Vec<usize> = (0..ports).collect();
+    for last in (1..ports).rev() {
+        order.swap(last, random.below(last + 1));
+    }
+    order
+}
+
+/// Multiples of one rate, the same ones in each line and in another order: many deadlines tie.
+fn multiples(random: &mut Random, ports: usize, frame: u32) -> Vec<u16> {
+    let mut left = frame;
+    let shares: Vec<u32> = (0..ports)
+        .map(|_| {
+            let share = random.pick(&[0, 1, 1, 2, 2, 3, 4, 6]).min(left);
+            left -= share;
+            share
+        })
+        .collect();
+    let unit = frame / (frame - left).max(1);
+    let turns = random_order(random, ports);
+    let flow = |flow: usize| shares[(turns[flow / ports] + flow % ports) % ports] * unit;
+    (0..ports * ports).map(|number| flow(number) as u16).collect()
 }
 
 /// Gives a flow some of what its two lines have to spare.

@@ -1,5 +1,6 @@
 //! Runs: the subject and the model get the same calls, and all that comes back is compared after each.
 
+use super::choices::judge_slot;
 use super::guarded::Guarded;
 use super::promises::Promises;
 use super::random::Random;
@@ -11,6 +12,9 @@ use crate::model::{Port, Refusal, SlotAnswer, Switch};
 use crate::operations::Operations;
 use std::fmt;
 use std::marker::PhantomData;
+
+/// How often the choices of all ports are looked at by themselves.
+const CHOICES_LOOK: u64 = 16;
 
 /// Calls that cutting a failing list down may cost.
 const CUTTING_CALLS: usize = 3_000_000;
@@ -222,8 +226,11 @@ impl<S: Operations> Run<S> {
                 outcome = self.model.state.step(&list);
             }
         }
+        let looked_at = reply.verdict == 0 && tally.slots % CHOICES_LOOK == 0;
+        let judged = if looked_at { judge_slot(&self.subject.state, &reply, &mut tally.slot_ties) } else { Ok(()) };
         self.subject.state = reply.state;
         self.compare(reply.verdict, &outcome, tally)?;
+        judged?;
         let answer = outcome.unwrap_or(SlotAnswer::IDLE);
         same_ports("board", &reply.moves, &answer.moves)?;
         same_ports("head", &reply.sends, &answer.sends)?;

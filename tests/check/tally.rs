@@ -62,6 +62,27 @@ const BRANCHES: [&str; 15] = [
     "lower share checked, fed in the stretch",
 ];
 
+/// Two eligible flows with one deadline, one of them chosen.
+#[derive(Clone, Copy)]
+pub enum Tie {
+    EqualRates,
+    LargerRateHigherNumber,
+    LargerRateLowerNumber,
+}
+
+const TIES: [&str; 3] =
+    ["equal rates, to the lower number", "to the larger rate, a higher number", "to the larger rate, a lower number"];
+
+/// How often each was seen.
+#[derive(Default)]
+pub struct Ties([u64; TIES.len()]);
+
+impl Ties {
+    pub fn seen(&mut self, tie: Tie) {
+        self.0[tie as usize] += 1;
+    }
+}
+
 /// Bytes that `waits` has to hold in hand-made states; a bool would have two of them.
 const WAITS: [u8; 6] = [0, 1, 2, 3, 254, 255];
 
@@ -75,6 +96,10 @@ pub struct Tally {
     pub texts: u64,
     verdicts: [u64; REFUSALS.len() + 1],
     branches: [u64; BRANCHES.len()],
+    /// In choices by themselves.
+    pub ties: Ties,
+    /// In the slots of runs that were looked at for them.
+    pub slot_ties: Ties,
     /// How often a clause was met at its limit, and how often past it.
     clauses: BTreeMap<&'static str, [u64; 2]>,
     /// How often a text of each name in `FAULTS` and `SOUND` got its verdict.
@@ -136,6 +161,11 @@ impl Tally {
         println!("branches in runs");
         for (name, &count) in BRANCHES.iter().zip(&self.branches) {
             line(name.to_string(), count);
+        }
+        println!("ties of deadlines");
+        for (tie, name) in TIES.iter().enumerate() {
+            line(format!("{name}, in a choice"), self.ties.0[tie]);
+            line(format!("{name}, in a slot"), self.slot_ties.0[tie]);
         }
         let named = |name: &str| self.named_texts.get(name).copied().unwrap_or(0);
         println!("texts with one fault, each refused 16");

@@ -1,6 +1,7 @@
 //! The multiplexer of one port.
 
 use super::plan::MOST_PORTS;
+use std::cmp::Reverse;
 
 /// How often each flow was served in this frame.
 #[derive(Clone, Copy, Debug, PartialEq, Eq)]
@@ -12,21 +13,23 @@ pub struct Multiplexer {
 impl Multiplexer {
     pub const ZERO: Multiplexer = Multiplexer { served: [0; MOST_PORTS] };
 
-    /// The eligible flow with the smallest deadline, the lowest of several; none: the port idles.
+    /// The eligible flow with the smallest deadline, of several the one with the largest rate, of several the lowest; none:
+    /// the port idles.
     pub fn choose(&self, rates: &[u16], frame: u32, slot: u32) -> Option<usize> {
         let (frame, slot) = (u64::from(frame), u64::from(slot));
-        let mut best: Option<(u64, usize)> = None;
+        let mut best: Option<(u64, Reverse<u64>, usize)> = None;
         for (flow, (&rate, &served)) in rates.iter().zip(&self.served).enumerate() {
             let (rate, served) = (u64::from(rate), u64::from(served));
             if rate == 0 || served * frame > slot * rate {
                 continue;
             }
             let deadline = ((served + 1) * frame).div_ceil(rate);
-            if best.map_or(true, |(smallest, _)| deadline < smallest) {
-                best = Some((deadline, flow));
+            let place = (deadline, Reverse(rate), flow);
+            if best.map_or(true, |first| place < first) {
+                best = Some(place);
             }
         }
-        best.map(|(_, flow)| flow)
+        best.map(|(_, _, flow)| flow)
     }
 
     pub fn count(&mut self, choice: Option<usize>) {

@@ -1,2 +1,2 @@
 pub mod Theorem
-pub mod RunOfC3
+pub mod RunOfL4

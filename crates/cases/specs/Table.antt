@@ -1,5 +1,5 @@
 -- "Cases with a star make up one table, proved of the specification by a single theorem". Each line has what the
--- definitions compute, and what the scope or a request (L3) says; its text of the case stands over it.
+-- definitions compute, and what the scope or a request (L3, L4) says; its text of the case stands over it.
 use Prim.Native.Nat.{ℕ}
 use mathlib.Core.Path.{_≡_}
 use mathlib.Core.List.{List, [], _∷_, _++_}
@@ -53,26 +53,44 @@ c1 = (flowsBySlot 8 (5 ∷ 2 ∷ []) is (Flow 0 ∷ Flow 1 ∷ Flow 0 ∷ Idle �
 abbrev pub c2 : List Line
 c2 = (flowsBySlot 6 (2 ∷ 3 ∷ 1 ∷ []) is (Flow 1 ∷ Flow 0 ∷ Flow 1 ∷ Flow 0 ∷ Flow 1 ∷ Flow 2 ∷ [])) ∷ []
 
--- C3* T = 15, rows 13 2 0, 1 10 4, 1 3 11, flow (2, 1) always waiting. Input 2 serves it in slots 1, 8, 12, output 1 in
--- 1, 7, 13. Slot 7 is empty; after slot 12 the crosspoint holds 2, after slot 13 one.
-abbrev pub c3Rates : List ℕ
-c3Rates = row3 13 2 0 ++ row3 1 10 4 ++ row3 1 3 11
+-- four cells for flow (i, j), which has three services, then a frame of t slots
+abbrev pub fedFrame : ℕ → ℕ → ℕ → List Call
+fedFrame i j t = arrive own i j 70 ∷ arrive own i j 71 ∷ arrive own i j 72 ∷ arrive own i j 73 ∷ replicate t (step own)
 
--- four cells for flow (2, 1), which has three services, then a frame
-abbrev pub c3Calls : List Call
-c3Calls = arrive own 2 1 70 ∷ arrive own 2 1 71 ∷ arrive own 2 1 72 ∷ arrive own 2 1 73 ∷ replicate 15 (step own)
-
-abbrev pub c3Run : List Event
-c3Run = runOf 3 15 c3Rates c3Calls
+-- C3* T = 15, rows 13 2 0, 1 10 4, 1 3 11, flow (2, 1) always waiting. Input 2 serves it in slots 1, 8, 12; slot 7 is
+-- empty. By L4 "output 1 then serves flow (2, 1) in slots 1, 7 and 10, and the crosspoint is at one cell after slot 12".
+abbrev c3Run : List Event
+c3Run = runOf 3 15 (row3 13 2 0 ++ row3 1 10 4 ++ row3 1 3 11) (fedFrame 2 1 15)
 
 abbrev pub c3 : List Line
 c3 =
     (noneWaits 2 1 c3Run is [])
     ∷ (inputServes 2 1 c3Run is (1 ∷ 8 ∷ 12 ∷ []))
-    ∷ (outputServes 2 1 c3Run is (1 ∷ 7 ∷ 13 ∷ []))
+    ∷ (outputServes 2 1 c3Run is (1 ∷ 7 ∷ 10 ∷ []))
     ∷ (outputEmpty 2 1 c3Run is (7 ∷ []))
-    ∷ (heldAfter 2 1 12 c3Run is 2)
-    ∷ (heldAfter 2 1 13 c3Run is 1)
+    ∷ (heldAfter 2 1 12 c3Run is 1)
+    ∷ []
+
+-- L4, the rule by itself: T = 4, rates 1 1 2: 2 0 2 1. In slot 1 flows 0 and 1 have the same deadline and rate, and 0 is
+-- the lower number; in slot 2 flows 1 and 2 have the same deadline, and 2 has the larger rate.
+abbrev pub l4Ties : List Line
+l4Ties = (flowsBySlot 4 (row3 1 1 2) is (Flow 2 ∷ Flow 0 ∷ Flow 2 ∷ Flow 1 ∷ [])) ∷ []
+
+-- L4, two cells are needed: N = 2, T = 9, rows 3 4, 5 2, flow (0, 0) always waiting. Input 0 serves it in slots 1, 4, 6,
+-- output 0 in 1, 3, 7. Slot 3 is empty; after slot 6 the crosspoint holds 2.
+abbrev pub l4Rates : List ℕ
+l4Rates = row2 3 4 ++ row2 5 2
+
+abbrev pub l4Run : List Event
+l4Run = runOf 2 9 l4Rates (fedFrame 0 0 9)
+
+abbrev pub l4 : List Line
+l4 =
+    (noneWaits 0 0 l4Run is [])
+    ∷ (inputServes 0 0 l4Run is (1 ∷ 4 ∷ 6 ∷ []))
+    ∷ (outputServes 0 0 l4Run is (1 ∷ 3 ∷ 7 ∷ []))
+    ∷ (outputEmpty 0 0 l4Run is (3 ∷ []))
+    ∷ (heldAfter 0 0 6 l4Run is 2)
     ∷ []
 
 -- C4* T = 10, demands 4 5 6, 3 5 5, 2 1 6: scaled 2 3 3, 2 3 2, 2 0 3.
@@ -178,4 +196,4 @@ c9 =
     ∷ []
 
 abbrev pub table : List Line
-table = c1 ++ c2 ++ c3 ++ c4 ++ c5 ++ l3 ++ l3Last ++ c6 ++ c7 ++ c8 ++ c9
+table = c1 ++ c2 ++ c3 ++ l4Ties ++ l4 ++ c4 ++ c5 ++ l3 ++ l3Last ++ c6 ++ c7 ++ c8 ++ c9

@@ -6,7 +6,7 @@ ghost use lib.Dec.{eqb};
 ghost use Rattle.plan.specs.Range.{mostPorts};
 ghost use Rattle.multiplexer.specs.Choose.{chooseOf};
 ghost use Rattle.multiplexer.specs.Count.{oneMore, countOf, endFrameOf};
-ghost use Rattle.multiplexer.specs.Candidate.{Soonest, orFlow, choiceOf};
+ghost use Rattle.multiplexer.specs.Candidate.{never, rankOf, Soonest, orFlow, choiceOf};
 ghost use Rattle.multiplexer.specs.Serve.{serveOf};
 use plan::range::MOST_PORTS;
 
@@ -17,8 +17,13 @@ const MOST_COUNT: u16 = 65535;
 // In place of a flow's number: none.
 const NO_FLOW: u16 = MOST_PORTS as u16;
 
-// Above every deadline that counts of 16 and a frame of 32 bits give.
-const NEVER: u64 = 18446744073709551615;
+const MOST_RATE: u16 = 65535;
+
+// Above every deadline that counts of 16 and a frame of 32 bits give: 48 bits, so that a rank has 64.
+const NEVER: u64 = 281474976710655;
+
+// How many ranks there are for one deadline: one for each rate.
+const RATES: u64 = 65536;
 
 // What a slot is used for.
 pub enum Choice {
@@ -40,11 +45,11 @@ pub struct Served {
     pub choice: Choice,
 }
 
-// The flow chosen among those looked at so far, or NO_FLOW, and its deadline. The number has a count's width, so that
+// The flow chosen among those looked at so far, or NO_FLOW, and its rank. The number has a count's width, so that
 // `counted` compares it with many flows' numbers at a time.
 struct Candidate {
     flow: u16,
-    deadline: u64,
+    rank: u64,
 }
 
 // How many of n rates count.
@@ -82,15 +87,26 @@ fn soonest(rate: u16, served: u16, frame: u32, slot: u32) -> u64
     deadline
 }
 
+// Deadline and rate as one number: the smaller deadline has the smaller rank, and of equal ones the larger rate. So one
+// comparison tells who goes before; with two, each flow would wait longer for the one before it.
+fn rank(deadline: u64, rate: u16) -> u64
+    requires { ⌜ deadline ≤ never ⌝ }
+    ensures { λ r. ⌜ r ≡ rankOf deadline rate ⌝ }
+{
+    deadline * RATES + ((MOST_RATE - rate) as u64)
+}
+
 impl Candidate {
-    // The choice with one flow more to choose from; on a tie it does not change.
-    fn or_flow(self, flow: u16, deadline: u64) -> Candidate
-        ensures { λ r. ⌜ (r ≡ orFlow self flow deadline) × (r .deadline ≤ self .deadline) ⌝ }
+    // The choice with one flow more to choose from; of equal ranks it keeps the lower number.
+    fn or_flow(self, flow: u16, deadline: u64, rate: u16) -> Candidate
+        requires { ⌜ deadline ≤ never ⌝ }
+        ensures { λ r. ⌜ r ≡ orFlow self flow deadline rate ⌝ }
     {
-        if self.deadline <= deadline {
+        let rank = rank(deadline, rate);
+        if self.rank <= rank {
             return self;
         }
-        Candidate { flow, deadline }
+        Candidate { flow, rank }
     }
 }
 
@@ -124,17 +140,20 @@ impl Multiplexer {
     {
         let served = self.served;
         let n = flows(rates.len());
+        // as a flow with the highest rate that is not eligible: none of those goes before it
         let mut best = Candidate {
             flow: NO_FLOW,
-            deadline: NEVER,
+            rank: rank(NEVER, MOST_RATE),
         };
         for f in 0..n {
-            best = best.or_flow(f as u16, soonest(rates[f], served[f], frame, slot));
+            let rate = rates[f];
+            best = best.or_flow(f as u16, soonest(rate, served[f], frame, slot), rate);
         }
         best.flow
     }
 
-    // The eligible flow with the smallest deadline, of equals the lowest. Only the first 16 rates count.
+    // The eligible flow with the smallest deadline, of equals the one with the largest rate, of equals the lowest. Only the
+    // first 16 rates count.
     pub fn choose(self, rates: &[u16], frame: u32, slot: u32) -> Choice
         ensures { λ r. ⌜ r ≡ chooseOf (now (rates .entry)) (self .served) frame slot ⌝ }
     {

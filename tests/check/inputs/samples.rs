@@ -67,6 +67,28 @@ impl<S: Operations> Inputs<'_, S> {
         self.end_frame(&multiplexer, ports)
     }
 
+    /// Rates that are multiples of one, or equal, each served in its proportion: all deadlines are the same. In half of
+    /// the lists one rate or count is then off by one.
+    pub fn random_tie(&mut self) -> Result<(), String> {
+        let most = self.random.pick(&[1, 3, 50, 8191]);
+        let (unit, turn) = (self.random.within(1, most) as u16, self.random.within(1, most) as u16);
+        let largest = self.random.pick(&[1, 2, 8]);
+        let length = self.random.within(2, MOST_PORTS);
+        let multiples: [u16; MOST_PORTS] = std::array::from_fn(|_| self.random.within(1, largest) as u16);
+        let mut rates: Vec<u16> = multiples[..length].iter().map(|multiple| multiple * unit).collect();
+        let mut multiplexer = Multiplexer { served: multiples.map(|multiple| multiple * turn - 1) };
+        match self.random.below(4) {
+            0 => rates[self.random.below(length)] += 1,
+            1 => multiplexer.served[self.random.below(length)] += 1,
+            _ => {}
+        }
+        let frame = if self.random.flip() { 1 + self.random.below(4096) as u32 } else { self.random.next() as u32 };
+        let due = (u64::from(turn) * u64::from(frame)).div_ceil(u64::from(unit));
+        let slot = self.random.pick(&[due.saturating_sub(1), due, u64::from(u32::MAX)]).min(u64::from(u32::MAX)) as u32;
+        self.choose(&multiplexer, &rates, frame, slot)?;
+        Ok(())
+    }
+
     /// A port's whole frame, with the window rule for each service.
     pub fn random_frame(&mut self) -> Result<(), String> {
         let (ports, frame) = self.random_shape();

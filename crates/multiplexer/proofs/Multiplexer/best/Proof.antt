@@ -1,19 +1,19 @@
 use borrow.Author.Needs.{needs}
 use Prim.Native.Nat.{ℕ, _-_, _≤_}
-use mathlib.Core.Path.{_≡_, refl, ap, _∙_}
+use mathlib.Core.Path.{_≡_, ap, _∙_}
 use native.Mathlib.Omega.{arith}
 use native.Mathlib.Numerals.{add-one}
 use denote.Ref.{now}
 use Rattle.multiplexer.specs.Choose.{bestOf, chooseOf}
-use Rattle.multiplexer.specs.Candidate.{never, choiceOf}
+use Rattle.multiplexer.specs.Candidate.{choiceOf}
 use Rattle.multiplexer.specs.declared.Candidate.{Candidate}
 use Rattle.multiplexer.proofs.NumberLaws.{numberOf, number-chosen}
-use Rattle.multiplexer.proofs.CandidateLaws.{candidate, candidate-next}
+use Rattle.multiplexer.proofs.CandidateLaws.{soonest-small, Kept, kept-none, kept-next}
 use Rattle.multiplexer.proofs.Multiplexer.best.Statement.{statement}
 use Rattle.multiplexer.proofs.Multiplexer.best.Tie as tie
 
 abbrev Inv-loop : tie.InvT-loop
-Inv-loop rates frame slot served n best₀ f₀ best f = (f ≤ n) × (best ≡ candidate rates served frame (bestOf rates served frame slot f)) × (best .deadline ≤ never)
+Inv-loop rates frame slot served n best₀ f₀ best f = (f ≤ n) × Kept rates served frame best (bestOf rates served frame slot f)
 
 abbrev μ-loop : tie.MeasureT-loop
 μ-loop rates frame slot served n best₀ f₀ best f = n - f
@@ -21,21 +21,24 @@ abbrev μ-loop : tie.MeasureT-loop
 flows-requires : tie.Need-flows-requires Inv-loop μ-loop
 flows-requires c κs = search needs
 
+rank-requires : tie.Need-rank-requires Inv-loop μ-loop
+rank-requires c κs = search needs
+
 loop-holds : tie.Need-loop-holds Inv-loop μ-loop
 unfolding bestOf
-loop-holds c = (omega arith, refl, omega arith)
+loop-holds c = let a = c .before .before .before .before .args in (omega arith, rw (c .rank .ensures) (kept-none (now (a .rates)) (a .self .served) (a .frame)))
+
+mul-rate : tie.Need-mul-rate Inv-loop μ-loop
+mul-rate c = search needs
+
+shared-slice-read-rate : tie.Need-shared-slice-read-rate Inv-loop μ-loop
+shared-slice-read-rate c = search needs
 
 cast-or-flow : tie.Need-cast-or-flow Inv-loop μ-loop
 cast-or-flow c = search needs
 
 mul-soonest : tie.Need-mul-soonest Inv-loop μ-loop
 mul-soonest c = search needs
-
-shared-slice-read-soonest : tie.Need-shared-slice-read-soonest Inv-loop μ-loop
-shared-slice-read-soonest c = search needs
-
-mul-soonest-2 : tie.Need-mul-soonest-2 Inv-loop μ-loop
-mul-soonest-2 c = search needs
 
 array-read-soonest : tie.Need-array-read-soonest Inv-loop μ-loop
 array-read-soonest c = search needs
@@ -44,7 +47,7 @@ soonest-requires : tie.Need-soonest-requires Inv-loop μ-loop
 soonest-requires c κs = search needs
 
 or-flow-requires : tie.Need-or-flow-requires Inv-loop μ-loop
-or-flow-requires c κs = search needs
+or-flow-requires c κs = soonest-small _ _ _ _ _ (c .soonest .ensures)
 
 add-f : tie.Need-add-f Inv-loop μ-loop
 add-f c = search needs
@@ -56,19 +59,19 @@ loop-again : tie.Need-loop-again Inv-loop μ-loop
 unfolding bestOf
 loop-again c =
     let loop = c .before .before .before .before .loop in
-    let a = c .before .before .before .before .before .before .before .before .args in
+    let a = c .before .before .before .before .before .before .before .before .before .args in
     let so-far = bestOf (now (a .rates)) (a .self .served) (a .frame) (a .slot) (loop .f) in
-    let next = candidate-next (now (a .rates)) (a .self .served) (a .frame) (a .slot) (loop .f) _ (loop .best) so-far (loop .inv .1) (loop .inv .2) (c .before .soonest .ensures) in
-    (omega arith, c .or-flow .ensures .0 ∙ next ∙ (rw add-one refl), omega (arith, c .or-flow .ensures .1, loop .inv .2))
+    let next = kept-next (now (a .rates)) (a .self .served) (a .frame) (loop .f) _ (loop .best) so-far (loop .inv .1) (a .slot) (c .before .soonest .ensures) in
+    (omega arith, rw (c .or-flow .ensures, add-one) next)
 
 returns : tie.Need-returns Inv-loop μ-loop
 unfolding chooseOf
 returns c =
     let loop = c .before .loop in
-    let a = c .before .before .before .before .before .args in
-    let n = c .before .before .flows in
+    let a = c .before .before .before .before .before .before .args in
+    let n = c .before .before .before .flows in
     let e : loop .f ≡ n .result = omega arith in
-    ap (λ (b : Candidate). choiceOf (b .flow)) (loop .inv .1)
+    ap (λ (b : Candidate). choiceOf (b .flow)) (loop .inv .1 .is)
     ∙ ap (λ (m : ℕ). choiceOf (numberOf (bestOf (now (a .rates)) (a .self .served) (a .frame) (a .slot) m))) (e ∙ n .ensures)
     ∙ number-chosen (now (a .rates)) (a .self .served) (a .frame) (a .slot)
 
@@ -79,11 +82,12 @@ best-spec =
     Inv-loop
     μ-loop
     flows-requires
+    rank-requires
     loop-holds
+    mul-rate
+    shared-slice-read-rate
     cast-or-flow
     mul-soonest
-    shared-slice-read-soonest
-    mul-soonest-2
     array-read-soonest
     soonest-requires
     or-flow-requires
