@@ -1,6 +1,6 @@
 //! What a slot, an arrival, a load, a choice, reading a text and boosting a plan cost: the proved library through its C
 //! interface, the model by value and the model in place, timed in turn in one run. For a slot also a switch that does
-//! less; for a text and for boost plain Rust that goes about it as the library does.
+//! less; for a choice, a text and for boost plain Rust that goes about it as the library does.
 //!
 //! `bench/run.sh` builds and runs it. With PORTS FRAME REPEATS it times one size, each batch that many times: for a
 //! profiler.
@@ -43,7 +43,9 @@ fn time_all(ports: usize, frame: u32, repeats: usize) {
     report_other("does less: in place, nothing checked, deadlines kept", less, proved);
     report(&format!("arrival, {size}, queues half full"), calls::arrival_times(&workload, repeats));
     report(&format!("load, {size}"), calls::load_times(&workload, repeats));
-    report(&format!("choice, {size}"), choice::choice_times(&workload, repeats));
+    let [proved, by_value, in_place, ranked] = choice::choice_times(&workload, repeats);
+    report(&format!("choice, {size}"), [proved, by_value, in_place]);
+    report_other("plain Rust, deadline and rate as one number", ranked, proved);
     time_text(&workload, repeats);
     time_boost(&workload, "periods from 0 on", 0, repeats);
     time_boost(&workload, "the last periods of 32 bits", boost::LAST, repeats);

@@ -1,6 +1,6 @@
 //! The model and the comparison put to the test by themselves, without the proved library:
 //! the cases of the scope on the model, the rules of texts kept and broken, the model by value against the
-//! model in place, and the check of shares against the words of the scope.
+//! model in place, and the checks of choices and of shares against the words of the scope.
 //!
 //!     rustc --edition 2021 -O --test tests/selftest.rs -o target/selftest && target/selftest
 
@@ -9,13 +9,15 @@ mod check;
 mod model;
 mod operations;
 
+use check::choices::judge;
 use check::random::Random;
 use check::share::Share;
-use check::tally::Tally;
+use check::tally::{Tally, Ties};
 use check::texts::faults::FAULTS;
 use check::texts::SOUND;
 use check::{inputs, runs, states};
 use model::printout::printout;
+use model::Multiplexer;
 use operations::{Model, Operations};
 use std::collections::BTreeSet;
 
@@ -100,6 +102,30 @@ fn by_value_and_in_place_agree() {
     inputs::compare::<Model>(100, &mut random, &mut tally).unwrap();
     states::compare::<Model>(50, &mut random, &mut tally).unwrap();
     assert_eq!(tally.report(), Vec::<String>::new());
+}
+
+/// T = 4, rates 1 1 2: of the choices in slots 0 to 2 one each is right, and each wrong one is wrong for its own reason.
+#[test]
+fn wrong_choices_are_found() {
+    let mut ties = Ties::default();
+    let mut judged = |slot: u32, served: [u16; 3], chosen: Option<usize>| {
+        let mut multiplexer = Multiplexer::ZERO;
+        multiplexer.served[..3].copy_from_slice(&served);
+        judge(chosen, &[1, 1, 2], &multiplexer, 4, slot, &mut ties)
+    };
+    let mut wrong = |slot: u32, served: [u16; 3], chosen: Option<usize>, what: &str| {
+        let said = judged(slot, served, chosen).expect_err(what);
+        assert!(said.contains(what), "{said:?} has no {what:?}");
+    };
+    wrong(0, [0, 0, 0], Some(0), "a smaller deadline");
+    wrong(0, [0, 0, 0], None, "idles");
+    wrong(1, [0, 0, 1], Some(1), "the same deadline and rate and a lower number");
+    wrong(1, [0, 0, 1], Some(2), "not eligible");
+    wrong(2, [1, 0, 1], Some(1), "the same deadline and a larger rate");
+    wrong(2, [1, 0, 1], Some(3), "not eligible");
+    for (slot, served, chosen) in [(0, [0, 0, 0], 2), (1, [0, 0, 1], 0), (2, [1, 0, 1], 2), (3, [1, 0, 2], 1)] {
+        assert_eq!(judged(slot, served, Some(chosen)), Ok(()));
+    }
 }
 
 /// One slot of one flow.

@@ -226,11 +226,9 @@ impl<S: Operations> Run<S> {
                 outcome = self.model.state.step(&list);
             }
         }
-        let looked_at = reply.verdict == 0 && tally.slots % CHOICES_LOOK == 0;
-        let judged = if looked_at { judge_slot(&self.subject.state, &reply, &mut tally.slot_ties) } else { Ok(()) };
+        let before = (tally.slots % CHOICES_LOOK == 0).then_some(self.subject.state);
         self.subject.state = reply.state;
         self.compare(reply.verdict, &outcome, tally)?;
-        judged?;
         let answer = outcome.unwrap_or(SlotAnswer::IDLE);
         same_ports("board", &reply.moves, &answer.moves)?;
         same_ports("head", &reply.sends, &answer.sends)?;
@@ -245,6 +243,9 @@ impl<S: Operations> Run<S> {
             tally.branch(Branch::FrameEnd);
         }
         self.tally_ports(&answer, tally);
+        if let Some(before) = before {
+            judge_slot(&before, &reply, &mut tally.slot_ties)?;
+        }
         self.promises.step(&reply, self.subject.store.list(), takeover, tally)?;
         Ok(Some(answer))
     }

@@ -1,4 +1,4 @@
--- Quotients rounded up are compared by products, and deadlines stay below 2 ^ 64 − 1.
+-- Quotients rounded up are compared by products, and deadlines stay below 2 ^ 48 − 1.
 use Prim.Native.Nat.{ℕ, suc, _+_, _-_, _*_, _/_, _<_, _≤_}
 use mathlib.Core.Path.{_≡_, ap}
 use mathlib.Core.Logic.{⊎-elim}

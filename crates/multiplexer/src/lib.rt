@@ -87,8 +87,8 @@ fn soonest(rate: u16, served: u16, frame: u32, slot: u32) -> u64
     deadline
 }
 
-// Deadline and rate as one number: the smaller deadline has the smaller rank, and of equal ones the larger rate. So one
-// comparison tells who goes before; with two, each flow would wait longer for the one before it.
+// Deadline and rate as one number: the smaller deadline makes the smaller rank, and of equal deadlines the larger rate. One
+// comparison of ranks tells who goes before; with two comparisons each flow would wait longer for the one before it.
 fn rank(deadline: u64, rate: u16) -> u64
     requires { ⌜ deadline ≤ never ⌝ }
     ensures { λ r. ⌜ r ≡ rankOf deadline rate ⌝ }
