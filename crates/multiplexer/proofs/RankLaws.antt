@@ -3,12 +3,12 @@ use Prim.Native.Nat.{ℕ, _<_, _≤_}
 use mathlib.Core.Path.{_≡_, sym, _∙_}
 use mathlib.Core.Logic.{⊎-elim}
 use native.Mathlib.Omega.{arith}
-use native.Mathlib.Decide.{ℕ-discrete}
 use lib.Dec.{ltb}
-use borrow.Author.Tests.{lt-ltb, le-ltb, eq-eqb, ne-eqb}
+use borrow.Author.Tests.{lt-ltb, le-ltb}
 use Rattle.plan.proofs.BelowLaws.{lt-or-le}
 use Rattle.multiplexer.specs.Choose.{goesBefore}
 use Rattle.multiplexer.specs.Candidate.{never, mostRate, rankOf}
+use Rattle.multiplexer.proofs.ChoiceLaws.{before-case}
 
 module _ (d a e b : ℕ) (ha : a ≤ mostRate) (hb : b ≤ mostRate) where
   -- on equal deadlines the larger rate has the smaller rank
@@ -19,16 +19,12 @@ module _ (d a e b : ℕ) (ha : a ≤ mostRate) (hb : b ≤ mostRate) where
       (λ (l : a ≤ b). le-ltb (rankOf d a) (rankOf e b) (omega arith) ∙ sym (le-ltb b a l))
       (lt-or-le b a)
 
-  not-smaller : e ≤ d → Dec (d ≡ e) → ltb (rankOf d a) (rankOf e b) ≡ goesBefore d a e b
-  not-smaller l (yes same) = rw (le-ltb d e l, eq-eqb d e same) (tie same)
-  not-smaller l (no other) = rw (le-ltb d e l, ne-eqb d e other) (le-ltb (rankOf d a) (rankOf e b) (omega arith))
-
   pub rank-tells : ltb (rankOf d a) (rankOf e b) ≡ goesBefore d a e b
   rank-tells =
-      ⊎-elim
-      (λ (l : d < e). rw (lt-ltb d e l) (lt-ltb (rankOf d a) (rankOf e b) (omega arith)))
-      (λ (l : e ≤ d). not-smaller l (ℕ-discrete d e))
-      (lt-or-le d e)
+      before-case d a e b (λ x. ltb (rankOf d a) (rankOf e b) ≡ x)
+      (λ l. lt-ltb (rankOf d a) (rankOf e b) (omega arith))
+      tie
+      (λ l. le-ltb (rankOf d a) (rankOf e b) (omega arith))
 
 -- the rank of an eligible flow is below that of `Idle`, and the rank of another flow is not
 pub rank-eligible : (d a : ℕ) → d < never → rankOf d a < rankOf never mostRate
