@@ -47,9 +47,9 @@
 #include <stdint.h>
 
 /* The version of this header. The archive is of the same one if gambyre_version() == GAMBYRE_VERSION_NUMBER. */
-#define GAMBYRE_VERSION "0.12.0"
+#define GAMBYRE_VERSION "0.13.0"
 #define GAMBYRE_VERSION_MAJOR 0
-#define GAMBYRE_VERSION_MINOR 12
+#define GAMBYRE_VERSION_MINOR 13
 #define GAMBYRE_VERSION_PATCH 0
 #define GAMBYRE_VERSION_NUMBER (GAMBYRE_VERSION_MAJOR * 10000 + GAMBYRE_VERSION_MINOR * 100 + GAMBYRE_VERSION_PATCH)
 
@@ -87,6 +87,9 @@ enum {
 /*
  * The verdicts: name, number and text. Of several refusals that are due, the first in the order given at the call is
  * answered. gambyre_verdict and gambyre_verdict_text are made of this list.
+ *
+ * No call answers 9. Before 0.13.0 it was GAMBYRE_PLAN_WAITS, "a plan already waits", the answer to a load while a plan
+ * waits; such a load is accepted now. The number stays free.
  */
 #define GAMBYRE_VERDICTS(VERDICT)                                                                   \
     VERDICT(GAMBYRE_ACCEPTED, 0, "accepted")                                                        \
@@ -98,7 +101,6 @@ enum {
     VERDICT(GAMBYRE_DEPTH_OUT_OF_RANGE, 6, "Q is outside 1 to 64")                                  \
     VERDICT(GAMBYRE_STORE_LENGTH, 7, "the store is not N * N * Q long")                             \
     VERDICT(GAMBYRE_PLAN_MISMATCH, 8, "the loaded plan has another N or T than the running one")    \
-    VERDICT(GAMBYRE_PLAN_WAITS, 9, "a plan already waits")                                          \
     VERDICT(GAMBYRE_NO_SUCH_PORT, 10, "the arrival is for a port that is not below N")              \
     VERDICT(GAMBYRE_QUEUE_FULL, 11, "the flow's queue holds Q cells")                               \
     VERDICT(GAMBYRE_STATE_INVALID, 12, "the state breaks a rule of gambyre_switch")                 \
@@ -259,8 +261,9 @@ GAMBYRE_MUST_USE gambyre_reply gambyre_arrive(gambyre_switch state, uint32_t *st
                                               size_t j, uint32_t cell);
 
 /*
- * Puts a plan in waiting. It takes over in the next slot 0, and must have the running plan's N and T.
- * Refusals, in this order: 12, 1, 2, 3, 4, 5, 8, 9. A refused call returns the state that it was given, so
+ * Puts a plan in waiting. It takes over in the next slot 0, and must have the running plan's N and T. A plan that waits
+ * already is replaced: it never runs, and the state is the one that this load alone would have made.
+ * Refusals, in this order: 12, 1, 2, 3, 4, 5, 8. A refused call returns the state that it was given, so
  * `state = reply.state` is right after any call.
  */
 GAMBYRE_MUST_USE gambyre_reply gambyre_load(gambyre_switch state, size_t n, uint32_t t, const uint16_t *rates,

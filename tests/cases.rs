@@ -20,6 +20,7 @@ pub fn all<S: Operations>() {
     c11_limits::<S>();
     deadlines_round_up::<S>();
     takeover_waits_for_the_frame::<S>();
+    l5_replaced_plan::<S>();
     text_of_c3::<S>();
     refusal_examples::<S>();
     refusal_order::<S>();
@@ -250,6 +251,33 @@ pub fn takeover_waits_for_the_frame<S: Operations>() {
     assert_eq!((state.running.rates[0], state.waiting), (3, Plan::ZERO));
 }
 
+/// Of two plans loaded in one frame the second takes over. With the first, board 0 would serve head 0 in slots 4 to 7.
+pub fn l5_replaced_plan<S: Operations>() {
+    let store = [0; 4];
+    let mut state = start::<S>(2, 4, &[1; 4], 1, &store);
+    let (mut rates, mut served) = (vec![], vec![]);
+    for slot in 0..8 {
+        let plan = match slot {
+            1 => Some([4, 0, 0, 4]),
+            2 => Some([3, 1, 1, 3]),
+            _ => None,
+        };
+        if let Some(plan) = plan {
+            let loaded = S::load(&state, 2, 4, &plan);
+            assert_eq!((loaded.verdict, loaded.state.waits), (0, 1), "L5");
+            state = loaded.state;
+        }
+        let reply = S::step(&state, &store);
+        state = reply.state;
+        rates.push(state.running.rates[0]);
+        if (reply.moves[0].kind, reply.moves[0].other) == (1, 0) {
+            served.push(slot);
+        }
+    }
+    assert_eq!(rates, [1, 1, 1, 1, 3, 3, 3, 3], "L5");
+    assert_eq!(served, [0, 4, 6, 7], "L5");
+}
+
 /// The plan of C3 as planners write it.
 pub fn text_of_c3<S: Operations>() {
     let mut rates = [9; 9];
@@ -275,8 +303,8 @@ pub fn refusal_examples<S: Operations>() {
     assert_eq!(S::load(&two_ports, 2, 8, &[1; 4]).verdict, 8);
     let loaded = S::load(&two_ports, 2, 6, &[2; 4]);
     assert_eq!((loaded.verdict, loaded.state.waits), (0, 1));
-    let refused = S::load(&loaded.state, 2, 6, &[2; 4]);
-    assert_eq!((refused.verdict, refused.state), (9, loaded.state));
+    let again = S::load(&loaded.state, 2, 6, &[3; 4]);
+    assert_eq!((again.verdict, again.state), (0, S::load(&two_ports, 2, 6, &[3; 4]).state), "9 before L5");
     assert_eq!(S::arrive(&two_ports, &mut [0; 4], 0, 2, 7).verdict, 10);
     let one_port = start::<S>(1, 2, &[1], 1, &one_place);
     let mut full = arrive::<S>(&one_port, &mut one_place, 0, 0, 7);

@@ -19,7 +19,7 @@ static void same(const char *what, unsigned long answered, unsigned long named) 
 }
 
 /* A switch of one flow that is served in every slot, with a queue of one cell. */
-static const uint16_t always[1] = {1};
+static const uint16_t always[1] = {1}, never[1] = {0};
 static uint32_t store[GAMBYRE_MOST_STORE];
 
 static gambyre_switch one_flow(void) {
@@ -81,16 +81,18 @@ static void version(void) {
     same("the version's parts", strcmp(parts, GAMBYRE_VERSION) == 0, 1);
 }
 
-/* Every verdict has a text of its own, and every other number the same one. */
+/* Every verdict has a text of its own, and every other number the same one, 9 among them. */
 static void texts(void) {
     const char *other = gambyre_verdict_text((gambyre_verdict)UINT32_MAX);
     for (uint32_t a = GAMBYRE_ACCEPTED; a <= GAMBYRE_NOT_PLAN_TEXT; a++) {
+        if (a == 9) continue;
         const char *text = gambyre_verdict_text((gambyre_verdict)a);
         same("a verdict has a text", strcmp(text, other) != 0, 1);
         for (uint32_t b = GAMBYRE_ACCEPTED; b < a; b++) {
             same("the text of one verdict", strcmp(text, gambyre_verdict_text((gambyre_verdict)b)) != 0, 1);
         }
     }
+    same("9 is no verdict", strcmp(gambyre_verdict_text((gambyre_verdict)9), other), 0);
     same("17 is no verdict", strcmp(gambyre_verdict_text((gambyre_verdict)17), other), 0);
     same("256 is no verdict", strcmp(gambyre_verdict_text((gambyre_verdict)256), other), 0);
     same("accepted", strcmp(gambyre_verdict_text(GAMBYRE_ACCEPTED), "accepted"), 0);
@@ -183,6 +185,18 @@ static void longest_text(void) {
          GAMBYRE_NOT_PLAN_TEXT);
 }
 
+/* The later plan replaces the one that waits, and leaves nothing of it in any field, for ports from N up neither. */
+static void two_loads(void) {
+    gambyre_switch state = one_flow_among(0xA5);
+    gambyre_reply first = gambyre_load(state, 1, 1, always, 1);
+    gambyre_reply second = gambyre_load(first.state, 1, 1, never, 1), alone = gambyre_load(state, 1, 1, never, 1);
+    same("first load", first.verdict, GAMBYRE_ACCEPTED);
+    same("the rate that waits", first.state.waiting.rates[0], 1);
+    same("second load", second.verdict, GAMBYRE_ACCEPTED);
+    same("the state after both", same_state(&second.state, &alone.state), 1);
+    same("the rate that takes over", gambyre_step(second.state, store, 1).state.running.rates[0], 0);
+}
+
 static void starts_and_loads(void) {
     same("Q = 65", gambyre_start(1, 1, always, 1, 65, store, 1).verdict, GAMBYRE_DEPTH_OUT_OF_RANGE);
     same("Q = 2, 1 place", gambyre_start(1, 1, always, 1, 2, store, 1).verdict, GAMBYRE_STORE_LENGTH);
@@ -190,7 +204,6 @@ static void starts_and_loads(void) {
     gambyre_reply loaded = gambyre_load(one_flow(), 1, 1, always, 1);
     same("load", loaded.verdict, GAMBYRE_ACCEPTED);
     same("what a load leaves in waits", loaded.state.waits, 1);
-    same("second load", gambyre_load(loaded.state, 1, 1, always, 1).verdict, GAMBYRE_PLAN_WAITS);
 }
 
 static void arrivals(void) {
@@ -234,7 +247,6 @@ static void bytes_of_waits(void) {
             same("3000 ports, and none waits", gambyre_step(outside, store, 1).verdict, GAMBYRE_ACCEPTED);
         }
 
-        const uint16_t twice[1] = {2};
         gambyre_switch state = gambyre_start(1, 2, always, 1, 1, store, 1).state;
         state.waiting.ports = 1;
         state.waiting.frame = 2;
@@ -245,7 +257,10 @@ static void bytes_of_waits(void) {
         same("the rate after slot 0", first.state.running.rates[0], byte != 0 ? 2 : 1);
         same("waits after slot 0", first.state.waits, 0);
         same("the waiting plan after slot 0", first.state.waiting.ports, byte != 0 ? 0 : 1);
-        same("a load", gambyre_load(state, 1, 2, twice, 1).verdict, byte != 0 ? GAMBYRE_PLAN_WAITS : GAMBYRE_ACCEPTED);
+        gambyre_reply loaded = gambyre_load(state, 1, 2, always, 1);
+        same("a load", loaded.verdict, GAMBYRE_ACCEPTED);
+        same("waits after a load", loaded.state.waits, 1);
+        same("the rate that waits after a load", loaded.state.waiting.rates[0], 1);
         same("waits after an arrival", gambyre_arrive(state, store, 1, 0, 0, 7).state.waits, byte);
         state.slot = 1;
         gambyre_slot_reply second = gambyre_step(state, store, 1);
@@ -317,6 +332,7 @@ int main(void) {
     limits();
     longest_text();
     starts_and_loads();
+    two_loads();
     arrivals();
     hand_made_states();
     bytes_of_waits();

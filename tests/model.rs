@@ -16,7 +16,7 @@ pub mod regulator;
 pub mod switch;
 
 /// The version of the interface: major × 10,000 + minor × 100 + patch.
-pub const VERSION: u32 = 1_200;
+pub const VERSION: u32 = 1_300;
 
 pub use multiplexer::Multiplexer;
 pub use plan::Plan;

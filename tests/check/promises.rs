@@ -1,4 +1,4 @@
-//! Demand 3, asserted of the subject's own answers in a run: occupancy, order and shares.
+//! Demand 3, asserted of the subject's own answers in a run: occupancy, order, shares, and which plan runs.
 
 use super::share::Share;
 use super::tally::{Branch, Tally};
@@ -15,8 +15,18 @@ const FULL_LOOK: u64 = 128;
 
 pub struct Promises {
     ports: usize,
+    frame: u64,
     slots: u64,
+    /// The rates of the plan that runs.
+    running: Vec<u16>,
+    waiting: Option<Waiting>,
     flows: Vec<Flow>,
+}
+
+/// The plan accepted last, and how many slots there had been.
+struct Waiting {
+    rates: Vec<u16>,
+    since: u64,
 }
 
 /// What the answers so far say of a flow. Accepted = moved ++ queued, moved = left ++ crossing; of these
@@ -34,7 +44,14 @@ impl Promises {
             crossing: VecDeque::with_capacity(3),
             share: Share::new(plan.frame, rate),
         };
-        Promises { ports: plan.ports, slots: 0, flows: plan.used_rates().iter().map(flow).collect() }
+        Promises {
+            ports: plan.ports,
+            frame: u64::from(plan.frame),
+            slots: 0,
+            running: plan.used_rates().to_vec(),
+            waiting: None,
+            flows: plan.used_rates().iter().map(flow).collect(),
+        }
     }
 
     pub fn arrival(&mut self, state: &Switch, store: &[u32], flow: usize, cell: u32) -> Result<(), String> {
@@ -42,12 +59,22 @@ impl Promises {
         self.look_at(state, store, flow)
     }
 
+    /// An accepted load.
+    pub fn load(&mut self, rates: &[u16], tally: &mut Tally) {
+        if let Some(Waiting { since, .. }) = self.waiting {
+            let at_once = since == self.slots;
+            tally.branch(if at_once { Branch::ReplacedAtOnce } else { Branch::ReplacedAfterSlots });
+        }
+        self.waiting = Some(Waiting { rates: rates.to_vec(), since: self.slots });
+    }
+
     /// An accepted step; the state and the store are those after it.
-    pub fn step(&mut self, reply: &SlotReply, store: &[u32], takeover: bool, tally: &mut Tally) -> Result<(), String> {
-        if takeover {
-            for (flow, &rate) in self.flows.iter_mut().zip(reply.state.running.used_rates()) {
-                flow.share.set_rate(self.slots, rate)?;
-            }
+    pub fn step(&mut self, reply: &SlotReply, store: &[u32], tally: &mut Tally) -> Result<(), String> {
+        if self.slots % self.frame == 0 {
+            self.begin_frame()?;
+        }
+        if reply.state.running.used_rates() != self.running {
+            return Err("the plan that runs isn't the one accepted last before the frame began".to_string());
         }
         for input in 0..self.ports {
             self.board(input, &reply.moves[input], tally)?;
@@ -66,6 +93,15 @@ impl Promises {
         if self.slots % FULL_LOOK == 0 {
             self.look_at_all(&reply.state, store)?;
         }
+        Ok(())
+    }
+
+    fn begin_frame(&mut self) -> Result<(), String> {
+        let Some(Waiting { rates, .. }) = self.waiting.take() else { return Ok(()) };
+        for (flow, &rate) in self.flows.iter_mut().zip(&rates) {
+            flow.share.set_rate(self.slots, rate)?;
+        }
+        self.running = rates;
         Ok(())
     }
 

@@ -205,7 +205,11 @@ impl<S: Operations> Run<S> {
         if outcome.is_ok() && self.model.state.slot > 0 {
             tally.branch(Branch::LoadInMidFrame);
         }
-        self.compare(reply.verdict, &outcome, tally)
+        self.compare(reply.verdict, &outcome, tally)?;
+        if outcome.is_ok() {
+            self.promises.load(rates, tally);
+        }
+        Ok(())
     }
 
     fn step(&mut self, lent: Option<usize>, tally: &mut Tally) -> Result<Option<SlotAnswer>, String> {
@@ -246,7 +250,7 @@ impl<S: Operations> Run<S> {
         if let Some(before) = before {
             judge_slot(&before, &reply, &mut tally.slot_ties)?;
         }
-        self.promises.step(&reply, self.subject.store.list(), takeover, tally)?;
+        self.promises.step(&reply, self.subject.store.list(), tally)?;
         Ok(Some(answer))
     }
 

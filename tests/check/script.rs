@@ -60,7 +60,7 @@ impl Script {
             return None;
         }
         if self.random.one_in(self.load_odds) {
-            return Some(self.next_load());
+            return Some(self.loads());
         }
         if self.random.one_in(self.refusal_odds) {
             return Some(self.refused_call());
@@ -126,6 +126,24 @@ impl Script {
         let ports = self.start.ports;
         let (input, output) = (self.random.below(ports), self.random.below(ports));
         self.arrival(input, output);
+    }
+
+    /// One load, or several before the next slot, with an arrival or a refused load here and there.
+    fn loads(&mut self) -> Call {
+        let Start { ports, frame, .. } = self.start;
+        for _ in 0..self.random.pick(&[0, 0, 1, 1, 2, 5]) {
+            let load = self.next_load();
+            self.pending.push(load);
+            match self.random.below(6) {
+                0 => self.arrival_anywhere(),
+                1 => {
+                    let load = self.refused_load(ports, frame);
+                    self.pending.push(load);
+                }
+                _ => {}
+            }
+        }
+        self.next_load()
     }
 
     fn next_load(&mut self) -> Call {

@@ -1,4 +1,4 @@
-//! Hand-made states: every call on each, where number 12 or 13 is due and where it just isn't.
+//! Hand-made states: every call on each, where number 12 or 13 is due and where it just isn't, and two loads on each.
 
 use super::calls::{self, describe, Outcome};
 use super::guarded::Guarded;
@@ -36,6 +36,7 @@ pub fn compare<S: Operations>(rounds: usize, random: &mut Random, tally: &mut Ta
             }
         }
         walk::<S>(random, tally).map_err(|what| format!("calls from a hand-made state: {what}"))?;
+        two_loads::<S>(random, tally).map_err(|what| format!("two loads on a hand-made state: {what}"))?;
     }
     Ok(())
 }
@@ -84,6 +85,21 @@ fn walk<S: Operations>(random: &mut Random, tally: &mut Tally) -> Result<(), Str
         }
         state = next;
     }
+    Ok(())
+}
+
+/// Of two accepted loads, the state is that of the second alone, in every place of every array.
+fn two_loads<S: Operations>(random: &mut Random, tally: &mut Tally) -> Result<(), String> {
+    let state = any_state(random);
+    let (ports, frame) = (state.running.ports, state.running.frame);
+    let [first, second] = [0; 2].map(|_| plans::accepted(random, ports, frame));
+    let (_, waiting) = tallied(calls::load::<S>(&state, ports, frame, &first), tally)?;
+    let both = tallied(calls::load::<S>(&waiting, ports, frame, &second), tally)?;
+    let alone = tallied(calls::load::<S>(&state, ports, frame, &second), tally)?;
+    if both != alone || alone.0 != 0 {
+        return Err(format!("verdicts {} and {} on {}", both.0, alone.0, describe(&state)));
+    }
+    tally.second_loads += 1;
     Ok(())
 }
 

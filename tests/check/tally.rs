@@ -5,23 +5,24 @@ use super::texts::SOUND;
 use crate::model::Port;
 use std::collections::BTreeMap;
 
-pub const REFUSALS: [&str; 16] = [
-    "N outside 1 to 16",
-    "T outside 1 to 4,096",
-    "list isn't N × N long",
-    "row sum above T",
-    "column sum above T",
-    "Q outside 1 to 64",
-    "store not N × N × Q long",
-    "loaded plan has another N or T",
-    "a plan already waits",
-    "port not below N",
-    "queue holds Q cells",
-    "state out of bounds",
-    "third cell",
-    "mark or version",
-    "file length",
-    "text breaks a rule",
+/// The verdicts by number; no call gives 9.
+pub const VERDICTS: [(usize, &str); 16] = [
+    (0, "accepted"),
+    (1, "N outside 1 to 16"),
+    (2, "T outside 1 to 4,096"),
+    (3, "list isn't N × N long"),
+    (4, "row sum above T"),
+    (5, "column sum above T"),
+    (6, "Q outside 1 to 64"),
+    (7, "store not N × N × Q long"),
+    (8, "loaded plan has another N or T"),
+    (10, "port not below N"),
+    (11, "queue holds Q cells"),
+    (12, "state out of bounds"),
+    (13, "third cell"),
+    (14, "mark or version"),
+    (15, "file length"),
+    (16, "text breaks a rule"),
 ];
 
 /// A way through the slot or an edge of a structure that a run has to reach.
@@ -40,11 +41,13 @@ pub enum Branch {
     CrosspointFull,
     StoreOfOtherLength,
     LoadInMidFrame,
+    ReplacedAtOnce,
+    ReplacedAfterSlots,
     FedSinceStart,
     FedStretch,
 }
 
-const BRANCHES: [&str; 15] = [
+const BRANCHES: [&str; 17] = [
     "board idle",
     "board empty",
     "board moved",
@@ -58,6 +61,8 @@ const BRANCHES: [&str; 15] = [
     "crosspoint reaches two cells",
     "list of another length lent",
     "load accepted in mid-frame",
+    "plan replaced before the next slot",
+    "plan replaced after slots in which it waited",
     "lower share checked, fed since the start",
     "lower share checked, fed in the stretch",
 ];
@@ -94,7 +99,9 @@ pub struct Tally {
     pub states: u64,
     pub inputs: u64,
     pub texts: u64,
-    verdicts: [u64; REFUSALS.len() + 1],
+    /// Second loads on hand-made states that came out as they do without the first.
+    pub second_loads: u64,
+    verdicts: [u64; VERDICTS[VERDICTS.len() - 1].0 + 1],
     branches: [u64; BRANCHES.len()],
     /// In choices by themselves.
     pub ties: Ties,
@@ -154,9 +161,8 @@ impl Tally {
             }
         };
         println!("verdicts");
-        line("0 accepted".to_string(), self.verdicts[0]);
-        for (refusal, name) in REFUSALS.iter().enumerate() {
-            line(format!("{} {name}", refusal + 1), self.verdicts[refusal + 1]);
+        for (number, name) in VERDICTS {
+            line(format!("{number} {name}"), self.verdicts[number]);
         }
         println!("branches in runs");
         for (name, &count) in BRANCHES.iter().zip(&self.branches) {
@@ -176,11 +182,12 @@ impl Tally {
         for (name, verdict, _) in SOUND {
             line(format!("{name}: {verdict}"), named(name));
         }
-        println!("clauses of 12 and 13 in hand-made states");
+        println!("clauses of 12 and 13, and loads, in hand-made states");
         for (name, [within, past]) in &self.clauses {
             line(format!("{name}, at the limit"), *within);
             line(format!("{name}, past it"), *past);
         }
+        line("second load as without the first".to_string(), self.second_loads);
         println!("`waits` in hand-made states, each given to every call");
         let names = WAITS.iter().map(|byte| format!("waits {byte}")).chain(["waits, another byte".to_string()]);
         for (name, [valid, broken]) in names.zip(&self.waits) {

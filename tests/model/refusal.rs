@@ -1,6 +1,6 @@
 //! Why a call is sent back.
 
-/// In the order of the scope's table: the first is number 1.
+/// In the order of the scope's table: the first is number 1. Number 9, a load while a plan waits, went with request L5.
 #[derive(Clone, Copy, Debug, PartialEq, Eq)]
 #[repr(u8)]
 pub enum Refusal {
@@ -12,8 +12,7 @@ pub enum Refusal {
     DepthOutOfRange,
     StoreLength,
     OtherPortsOrFrame,
-    PlanAlreadyWaits,
-    NoSuchPort,
+    NoSuchPort = 10,
     QueueFull,
     BrokenState,
     ThirdCell,

@@ -134,7 +134,6 @@ impl Switch {
         self.check()?;
         plan::accept(ports, frame, rates)?;
         refuse_if((ports, frame) != (self.running.ports, self.running.frame), Refusal::OtherPortsOrFrame)?;
-        refuse_if(self.plan_waits(), Refusal::PlanAlreadyWaits)?;
         self.waiting.set(ports, frame, rates);
         self.waits = 1;
         Ok(())

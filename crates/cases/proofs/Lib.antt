@@ -1,2 +1,4 @@
 pub mod Theorem
+pub mod OwnRuns
 pub mod RunOfL4
+pub mod RunOfL5

@@ -23,12 +23,13 @@ use Rattle.crossbar.specs.Valid.{validOf}
 use Rattle.planpair.specs.Rates.{overlaid}
 use Rattle.crossbar.specs.Start.{freshWith, startVerdict, startOf}
 use Rattle.crossbar.specs.Arrive.{arriveVerdict, arriveOf}
+use Rattle.crossbar.specs.Load.{loadVerdict, loadOf}
 use Rattle.crossbar.specs.Takeover.{takeoverOf}
 use Rattle.crossbar.specs.Step.{boardChoices, headChoices, afterSlot, stepVerdict, stepOf}
 use Rattle.runs.specs.Run.{definedRun}
-use Rattle.cases.specs.Look.{runOf, slotsOf, slotsFrom}
+use Rattle.cases.specs.Look.{runOf, slotsOf, slotsFrom, loadVerdicts}
 use Rattle.cases.specs.Table.{Hold, table}
 
 pub cases-hold : Hold table
-unfolding runOf slotsOf slotsFrom definedRun startOf startVerdict freshWith overlaid arriveOf arriveVerdict stepOf stepVerdict afterSlot takeoverOf validOf plansValid planValid flowsValid portsValid portValid depthInRange storeFits boardChoices headChoices choicesOf roomForAll roomFor movesOf boardMoves moveOf sendsOf headSends sendOf countsOf countsAfter clearedBelow countsAt chooseOf bestOf better eligible roundedUp scaleOf scaledOf boostOf boostVerdict boostedOf boostDiagonals diagonalIn boostDiagonal boostPlace columnOn listsOf acceptOf portsInRange frameInRange rowSum columnSum listBelow
-cases-hold = (refl, (refl, (refl, (refl, (refl, (refl, (refl, (refl, (refl, (refl, (refl, (refl, (refl, (refl, (refl, (refl, (refl, (refl, (refl, (refl, (refl, (refl, (refl, (refl, (refl, (refl, (refl, (refl, (refl, (refl, (refl, (refl, (refl, (refl, tt))))))))))))))))))))))))))))))))))
+unfolding runOf slotsOf slotsFrom loadVerdicts definedRun startOf startVerdict freshWith overlaid arriveOf arriveVerdict loadOf loadVerdict stepOf stepVerdict afterSlot takeoverOf validOf plansValid planValid flowsValid portsValid portValid depthInRange storeFits boardChoices headChoices choicesOf roomForAll roomFor movesOf boardMoves moveOf sendsOf headSends sendOf countsOf countsAfter clearedBelow countsAt chooseOf bestOf better eligible roundedUp scaleOf scaledOf boostOf boostVerdict boostedOf boostDiagonals diagonalIn boostDiagonal boostPlace columnOn listsOf acceptOf portsInRange frameInRange rowSum columnSum listBelow
+cases-hold = (refl, (refl, (refl, (refl, (refl, (refl, (refl, (refl, (refl, (refl, (refl, (refl, (refl, (refl, (refl, (refl, (refl, (refl, (refl, (refl, (refl, (refl, (refl, (refl, (refl, (refl, (refl, (refl, (refl, (refl, (refl, (refl, (refl, (refl, (refl, (refl, (refl, (refl, (refl, tt)))))))))))))))))))))))))))))))))))))))

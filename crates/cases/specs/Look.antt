@@ -5,8 +5,10 @@ use mathlib.Core.List.{List, [], _∷_, map}
 use lib.Dec.{eqb}
 use lib.ListN.{getD, replicate}
 use Rattle.refusal.specs.Chain.{ifAccepted}
+use Rattle.refusal.specs.declared.Verdict.{Verdict}
 use Rattle.plan.specs.Range.{mostPorts}
 use Rattle.plan.specs.Lines.{flowOf}
+use Rattle.planpair.specs.Rates.{rateAt}
 use Rattle.multiplexer.specs.Count.{servicesOf}
 use Rattle.multiplexer.specs.Frame.{frameOf}
 use Rattle.multiplexer.specs.declared.Choice.{Choice}
@@ -46,6 +48,17 @@ slotsOf [] = []
 slotsOf (stepped lent r ∷ es) = ifAccepted (r .verdict) (r ∷ slotsOf es) (slotsOf es)
 slotsOf (arrived lent i j cell r left ∷ es) = slotsOf es
 slotsOf (loaded n t rates r ∷ es) = slotsOf es
+
+-- the verdicts of the loads
+unfoldable pub loadVerdicts : List Event → List Verdict
+loadVerdicts [] = []
+loadVerdicts (stepped lent r ∷ es) = loadVerdicts es
+loadVerdicts (arrived lent i j cell r left ∷ es) = loadVerdicts es
+loadVerdicts (loaded n t rates r ∷ es) = r .verdict ∷ loadVerdicts es
+
+-- the rate of flow (i, j) in the plan that runs, slot by slot
+abbrev pub rateBySlot : ℕ → ℕ → List Event → List ℕ
+rateBySlot i j es = map (λ (r : SlotReply). rateAt (r .state .running) i j) (slotsOf es)
 
 -- whom a port served, as a choice
 abbrev pub servedBy : Answer → Choice

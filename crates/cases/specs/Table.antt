@@ -1,9 +1,9 @@
 -- "Cases with a star make up one table, proved of the specification by a single theorem". Each line has what the
--- definitions compute, and what the scope or a request (L3, L4) says; its text of the case stands over it.
+-- definitions compute, and what the scope or a request (L3 to L5) says; its text of the case stands over it.
 use Prim.Native.Nat.{ℕ}
 use mathlib.Core.Path.{_≡_}
 use mathlib.Core.List.{List, [], _∷_, _++_}
-use lib.ListN.{replicate}
+use lib.ListN.{length, take, drop, replicate}
 use Rattle.refusal.specs.Number.{verdictNumberOf}
 use Rattle.refusal.specs.declared.Verdict.the-variants.{Accepted}
 use Rattle.plan.specs.Below.{listBelow}
@@ -14,9 +14,9 @@ use Rattle.regulator.specs.Boost.{diagonalIn, boostOf}
 use Rattle.multiplexer.specs.declared.Choice.the-variants.{Idle, Flow}
 use Rattle.runs.specs.Event.{Call, Event}
 use Rattle.runs.specs.Event.Lent.{own}
-use Rattle.runs.specs.Event.Call.{step, arrive}
+use Rattle.runs.specs.Event.Call.{step, arrive, load}
 use Rattle.runs.specs.Run.{finalState}
-use Rattle.cases.specs.Look.{flowsBySlot, started, runOf, inputBySlot, outputBySlot, inputServes, outputServes, outputEmpty, noneWaits, heldAfter}
+use Rattle.cases.specs.Look.{flowsBySlot, started, runOf, loadVerdicts, rateBySlot, inputBySlot, outputBySlot, inputServes, outputServes, outputEmpty, noneWaits, heldAfter}
 
 infix 20 _is_
 -- two values of one type; the lines' types differ
@@ -53,9 +53,13 @@ c1 = (flowsBySlot 8 (5 ∷ 2 ∷ []) is (Flow 0 ∷ Flow 1 ∷ Flow 0 ∷ Idle �
 abbrev pub c2 : List Line
 c2 = (flowsBySlot 6 (2 ∷ 3 ∷ 1 ∷ []) is (Flow 1 ∷ Flow 0 ∷ Flow 1 ∷ Flow 0 ∷ Flow 1 ∷ Flow 2 ∷ [])) ∷ []
 
--- four cells for flow (i, j), which has three services, then a frame of t slots
+-- four cells for flow (i, j)
+abbrev pub fourCells : ℕ → ℕ → List Call
+fourCells i j = arrive own i j 70 ∷ arrive own i j 71 ∷ arrive own i j 72 ∷ arrive own i j 73 ∷ []
+
+-- then a frame of t slots, in which it has three services
 abbrev pub fedFrame : ℕ → ℕ → ℕ → List Call
-fedFrame i j t = arrive own i j 70 ∷ arrive own i j 71 ∷ arrive own i j 72 ∷ arrive own i j 73 ∷ replicate t (step own)
+fedFrame i j t = fourCells i j ++ replicate t (step own)
 
 -- C3* T = 15, rows 13 2 0, 1 10 4, 1 3 11, flow (2, 1) always waiting. Input 2 serves it in slots 1, 8, 12; slot 7 is
 -- empty. By L4 "output 1 then serves flow (2, 1) in slots 1, 7 and 10, and the crosspoint is at one cell after slot 12".
@@ -91,6 +95,47 @@ l4 =
     ∷ (outputServes 0 0 l4Run is (1 ∷ 3 ∷ 7 ∷ []))
     ∷ (outputEmpty 0 0 l4Run is (3 ∷ []))
     ∷ (heldAfter 0 0 6 l4Run is 2)
+    ∷ []
+
+-- L5, a plan that is replaced: N = 2, T = 4, rows 1 1, 1 1. Behind slot 0 rows 4 0, 0 4 are loaded, and behind slot 1 rows
+-- 3 1, 1 3. Flow (0, 0) has rate 1 through this frame and 3 through the next one, never 4. It is served in slot 0, and in
+-- slots 0, 2, 3 of the second frame, in place of all four.
+abbrev pub l5Rates : List ℕ
+l5Rates = row2 1 1 ++ row2 1 1
+
+abbrev pub l5First : List ℕ
+l5First = row2 4 0 ++ row2 0 4
+
+abbrev pub l5Second : List ℕ
+l5Second = row2 3 1 ++ row2 1 3
+
+abbrev pub l5Before : List Call
+l5Before = fourCells 0 0 ++ (step own ∷ [])
+
+-- the calls of the first frame, and those of the second
+abbrev pub l5Frame : List Call
+l5Frame = l5Before ++ (load 2 4 l5First ∷ step own ∷ load 2 4 l5Second ∷ step own ∷ step own ∷ [])
+
+abbrev pub l5Next : List Call
+l5Next = replicate 4 (step own)
+
+abbrev pub l5Run : List Event
+l5Run = runOf 2 4 l5Rates (l5Frame ++ l5Next)
+
+-- the events of the first frame, and those of the second
+abbrev pub l5Early : List Event
+l5Early = take (length l5Frame) l5Run
+
+abbrev pub l5Late : List Event
+l5Late = drop (length l5Frame) l5Run
+
+abbrev pub l5 : List Line
+l5 =
+    (loadVerdicts l5Run is (Accepted ∷ Accepted ∷ []))
+    ∷ (rateBySlot 0 0 l5Early is (1 ∷ 1 ∷ 1 ∷ 1 ∷ []))
+    ∷ (rateBySlot 0 0 l5Late is (3 ∷ 3 ∷ 3 ∷ 3 ∷ []))
+    ∷ (inputServes 0 0 l5Run is (0 ∷ 4 ∷ 6 ∷ 7 ∷ []))
+    ∷ (outputServes 0 0 l5Run is (0 ∷ 4 ∷ 6 ∷ 7 ∷ []))
     ∷ []
 
 -- C4* T = 10, demands 4 5 6, 3 5 5, 2 1 6: scaled 2 3 3, 2 3 2, 2 0 3.
@@ -196,4 +241,4 @@ c9 =
     ∷ []
 
 abbrev pub table : List Line
-table = c1 ++ c2 ++ c3 ++ l4Ties ++ l4 ++ c4 ++ c5 ++ l3 ++ l3Last ++ c6 ++ c7 ++ c8 ++ c9
+table = c1 ++ c2 ++ c3 ++ l4Ties ++ l4 ++ l5 ++ c4 ++ c5 ++ l3 ++ l3Last ++ c6 ++ c7 ++ c8 ++ c9

@@ -1,17 +1,16 @@
--- "A load puts an accepted plan in waiting." Order: 12, 1 to 5, 8, 9. Only the waiting plan's N, T and rates for ports
--- below N are written.
+-- "A load puts an accepted plan in waiting", and "the later plan replaces the waiting one" (L5). Order: 12, 1 to 5, 8. Only
+-- the waiting plan's N, T and rates for ports below N are written.
 use Prim.Native.Nat.{ℕ, _*_}
 use mathlib.Core.Path.{_≡_}
-use mathlib.Core.Bool.{true, false, not, _&&_}
+use mathlib.Core.Bool.{true, not, _&&_}
 use mathlib.Core.List.{List}
 use lib.Dec.{eqb}
 use Rattle.refusal.specs.Chain.{refuseIf, andThen, ifAccepted}
-use Rattle.refusal.specs.declared.Refusal.the-variants.{StateInvalid, PlanMismatch, PlanWaits}
+use Rattle.refusal.specs.declared.Refusal.the-variants.{StateInvalid, PlanMismatch}
 use Rattle.refusal.specs.declared.Verdict.{Verdict}
 use Rattle.refusal.specs.declared.Verdict.the-variants.{Accepted}
 use Rattle.plan.specs.Accept.{acceptOf, IsPlan}
 use Rattle.plan.specs.declared.Plan.{Plan}
-use Rattle.crossbar.specs.State.{hasWaiting}
 use Rattle.crossbar.specs.Valid.{validOf}
 use Rattle.planpair.specs.Rates.{overlaid}
 use Rattle.crossbar.specs.declared.state.Switch.{Switch}
@@ -33,8 +32,7 @@ loadVerdict s n t rates =
     refuseIf (not (validOf s)) StateInvalid
     (andThen (acceptOf n t rates)
     (refuseIf (not (eqb n (s .running .ports) && eqb t (s .running .frame))) PlanMismatch
-    (refuseIf (hasWaiting s) PlanWaits
-    Accepted)))
+    Accepted))
 
 -- When a load is accepted. proofs/LoadLaws.antt has that it is then, and only then.
 pub record CanLoad (s : Switch) (n t : ℕ) (rates : List ℕ) : Type 0 where
@@ -42,7 +40,6 @@ pub record CanLoad (s : Switch) (n t : ℕ) (rates : List ℕ) : Type 0 where
   pub plan : IsPlan n t rates
   pub ports : n ≡ s .running .ports
   pub frame : t ≡ s .running .frame
-  pub free : hasWaiting s ≡ false
 
 -- a state with a plan laid into its waiting one
 abbrev pub withWaiting : Switch → ℕ → ℕ → List ℕ → Switch

@@ -26,13 +26,10 @@ impl Switch {
         if t != self.running.frame {
             return Verdict::Refused(Refusal::PlanMismatch);
         }
-        if self.waits != 0 {
-            return Verdict::Refused(Refusal::PlanWaits);
-        }
         Verdict::Accepted
     }
 
-    // Put a plan in waiting.
+    // Put a plan in waiting, in the place of one that waits already.
     pub fn load(self, n: usize, t: u32, rates: &[u16]) -> Reply
         ensures { λ r. ⌜ Loads self n t (now (rates .entry)) r ⌝ }
     {

@@ -38,7 +38,7 @@ pub fn loads() {
     let fresh = started.state;
     let waiting = load(b"T = 6 loaded into a switch of T = 6", fresh, 6);
     load(b"T = 8 loaded into a switch of T = 6", fresh, 8);
-    load(b"a second load before the next slot", waiting, 6);
+    load(b"T = 6 loaded while a plan waits", waiting, 6);
 }
 
 pub fn output(j: usize) {

@@ -9,7 +9,7 @@ use lib.ListN.{length, getD, set, take, replicate, length-set}
 use lib.Seq.{getD-set-same, getD-set-other, getD-take, length-take-le, ext-getD}
 use Rattle.plan.specs.Range.{mostFlows}
 use Rattle.plan.specs.Accept.{IsPlan}
-use Rattle.plan.proofs.BelowLaws.{below-or-last}
+use Rattle.plan.proofs.BelowLaws.{below-or-last, lt-or-le}
 use Rattle.plan.proofs.LineLaws.{square-small}
 use Rattle.planpair.specs.Rates.{overlaid}
 
@@ -34,12 +34,12 @@ overlaid-above array list zero k h = refl
 overlaid-above array list (suc m) k h = getD-set-other (overlaid array list m) m k (getD list m 0) 0 (λ e. omega arith) ∙ overlaid-above array list m k (omega arith)
 
 -- below count, the list's number
-overlaid-at : (array list : List ℕ) (count k : ℕ) → k < count → count ≤ length array → getD (overlaid array list count) k 0 ≡ getD list k 0
+overlaid-at : (array list : List ℕ) (count k : ℕ) → k < count → k < length array → getD (overlaid array list count) k 0 ≡ getD list k 0
 unfolding overlaid
 overlaid-at array list zero k h l = absurd (omega arith)
 overlaid-at array list (suc m) k h l =
     ⊎-elim
-    (λ (b : k < m). getD-set-other (overlaid array list m) m k (getD list m 0) 0 (λ e. omega arith) ∙ overlaid-at array list m k b (omega arith))
+    (λ (b : k < m). getD-set-other (overlaid array list m) m k (getD list m 0) 0 (λ e. omega arith) ∙ overlaid-at array list m k b l)
     (λ (e : k ≡ m). rw e (getD-set-same (overlaid array list m) m (getD list m 0) 0 (omega (arith, overlaid-length array list m))))
     (below-or-last k m h)
 
@@ -52,6 +52,17 @@ overlaid-ext array list other (suc k) h = rw (overlaid-ext array list other k (�
 -- the first numbers of a list are laid over an array as the list is
 pub overlaid-part : (array list : List ℕ) (count : ℕ) → overlaid array (take count list) count ≡ overlaid array list count
 overlaid-part array list count = overlaid-ext array (take count list) list count (λ k l. getD-take count list k 0 l)
+
+-- of two lists laid over an array, the second stands
+pub overlaid-twice : (array first second : List ℕ) (count : ℕ) → overlaid (overlaid array first count) second count ≡ overlaid array second count
+overlaid-twice array first second count =
+    let under = overlaid-length array first count in
+    let size = overlaid-length (overlaid array first count) second count ∙ under in
+    ext-getD 0 (overlaid (overlaid array first count) second count) (overlaid array second count) (size ∙ sym (overlaid-length array second count))
+    (λ k l. ⊎-elim
+    (λ (b : k < count). overlaid-at (overlaid array first count) second count k b (omega arith) ∙ sym (overlaid-at array second count k b (omega arith)))
+    (λ (a : count ≤ k). overlaid-above (overlaid array first count) second count k a ∙ overlaid-above array first count k a ∙ sym (overlaid-above array second count k a))
+    (lt-or-le k count))
 
 zero-at : (m k : ℕ) → _≡_ {A = ℕ} (getD (replicate m 0) k 0) 0
 zero-at zero k = refl
@@ -67,7 +78,7 @@ pub take-overlaid : (array list : List ℕ) (count : ℕ) → length list ≡ co
 take-overlaid array list count e h =
     let full : length (take count (overlaid array list count)) ≡ count = length-take-le count (overlaid array list count) (omega (arith, overlaid-length array list count)) in
     ext-getD 0 (take count (overlaid array list count)) list (full ∙ sym e)
-    (λ k l. getD-take count (overlaid array list count) k 0 (omega arith) ∙ overlaid-at array list count k (omega arith) h)
+    (λ k l. getD-take count (overlaid array list count) k 0 (omega arith) ∙ overlaid-at array list count k (omega arith) (omega arith))
 
 -- a plan that is accepted is the one read from its array
 pub laid-rates : (array : List ℕ) (n t : ℕ) (rates : List ℕ) → length array ≡ mostFlows → IsPlan n t rates → take (n * n) (overlaid array rates (n * n)) ≡ rates

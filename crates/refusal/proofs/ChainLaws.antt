@@ -8,7 +8,7 @@ use Rattle.refusal.specs.declared.Refusal.{Refusal}
 use Rattle.refusal.specs.declared.Verdict.{Verdict}
 use Rattle.refusal.specs.declared.Verdict.the-variants.{Accepted, Refused}
 
-refused-not-accepted : (r : Refusal) → Refused r ≡ Accepted → ⊥
+pub refused-not-accepted : (r : Refusal) → Refused r ≡ Accepted → ⊥
 refused-not-accepted r e = let z : _≡_ {A = ℕ} 0 1 = cc in omega arith
 
 pub refuse-passed : (b : Bool) (r : Refusal) (rest : Verdict) → refuseIf b r rest ≡ Accepted → (b ≡ false) × (rest ≡ Accepted)

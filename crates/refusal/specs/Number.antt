@@ -2,7 +2,7 @@
 -- this file and the function `number` have these numbers; all others use the names.
 use Prim.Native.Nat.{ℕ}
 use Rattle.refusal.specs.declared.Refusal.{Refusal}
-use Rattle.refusal.specs.declared.Refusal.the-variants.{PortsOutOfRange, FrameOutOfRange, ListLength, RowAboveFrame, ColumnAboveFrame, DepthOutOfRange, StoreLength, PlanMismatch, PlanWaits, NoSuchPort, QueueFull, StateInvalid, CrosspointFull, NotPlanFile, FileLength, NotPlanText}
+use Rattle.refusal.specs.declared.Refusal.the-variants.{PortsOutOfRange, FrameOutOfRange, ListLength, RowAboveFrame, ColumnAboveFrame, DepthOutOfRange, StoreLength, PlanMismatch, NoSuchPort, QueueFull, StateInvalid, CrosspointFull, NotPlanFile, FileLength, NotPlanText}
 use Rattle.refusal.specs.declared.Verdict.{Verdict}
 use Rattle.refusal.specs.declared.Verdict.the-variants.{Accepted, Refused}
 
@@ -15,7 +15,6 @@ numberOf ColumnAboveFrame = 5
 numberOf DepthOutOfRange = 6
 numberOf StoreLength = 7
 numberOf PlanMismatch = 8
-numberOf PlanWaits = 9
 numberOf NoSuchPort = 10
 numberOf QueueFull = 11
 numberOf StateInvalid = 12
@@ -23,6 +22,10 @@ numberOf CrosspointFull = 13
 numberOf NotPlanFile = 14
 numberOf FileLength = 15
 numberOf NotPlanText = 16
+
+-- "Number 9 is then never given" (L5): a load while a plan waits had it until then. No refusal gets it again.
+abbrev pub retired : ℕ
+retired = 9
 
 -- A verdict's number is its refusal's; 0, which the table leaves free, stands for "accepted".
 abbrev pub verdictNumberOf : Verdict → ℕ

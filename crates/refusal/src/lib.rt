@@ -2,7 +2,8 @@
 ghost use mathlib.Core.Path.{_≡_};
 ghost use Rattle.refusal.specs.Number.{numberOf, verdictNumberOf};
 
-// A case for each row of the scope's table "What is sent back", and for each number that a change request adds.
+// A case for each row of the scope's table "What is sent back", and for each number that a change request adds. Row 9 has none:
+// since request L5 a load is accepted while a plan waits.
 pub enum Refusal {
     // N is outside 1 to 16
     PortsOutOfRange,
@@ -20,8 +21,6 @@ pub enum Refusal {
     StoreLength,
     // a loaded plan has another N or T than the running one
     PlanMismatch,
-    // a plan already waits
-    PlanWaits,
     // an arrival for a port not below N
     NoSuchPort,
     // the flow's queue holds Q cells
@@ -58,7 +57,6 @@ impl Refusal {
             Refusal::DepthOutOfRange => 6,
             Refusal::StoreLength => 7,
             Refusal::PlanMismatch => 8,
-            Refusal::PlanWaits => 9,
             Refusal::NoSuchPort => 10,
             Refusal::QueueFull => 11,
             Refusal::StateInvalid => 12,

@@ -62,7 +62,7 @@ module _ (s : Switch) (store : List ℕ) where
       go Accepted e = rw e (takeover-sound ok .1 .ports, takeover-sound ok .1 .frame)
       go (Refused r) e = rw e (refl, refl)
 
-call-keeps : (s : Switch) (store : List ℕ) → Sound s store → (c : Call) → Allowed store c → Keeps s store (answered s store c)
+pub call-keeps : (s : Switch) (store : List ℕ) → Sound s store → (c : Call) → Allowed store c → Keeps s store (answered s store c)
 unfolding stepOf arriveOf loadOf
 call-keeps s store ok (step own) h =
     record {
@@ -105,7 +105,7 @@ call-keeps s store ok (load n t rates) h =
       flows = load-law ok n t rates;
     }
 
-allowed : (s : Switch) (store : List ℕ) (e : Event) → Happens s store e → Allowed store (callOf e)
+pub allowed : (s : Switch) (store : List ℕ) (e : Event) → Happens s store e → Allowed store (callOf e)
 allowed s store (stepped own r) h = tt
 allowed s store (stepped (other l) r) h = h .0
 allowed s store (arrived own i j cell r left) h = tt

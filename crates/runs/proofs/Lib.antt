@@ -17,4 +17,7 @@ pub mod StepEventLaws
 pub mod VerdictLaws
 pub mod ValidityLaws
 pub mod CallLaws
+pub mod PlanLaws
+pub mod ReplacedLaws
 pub mod Theorem
+pub mod PlanTheorem

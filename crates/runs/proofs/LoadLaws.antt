@@ -28,7 +28,7 @@ module _ {s : Switch} {store : List ℕ} (ok : Sound s store) (n t : ℕ) (rates
       let same = take-overlaid (s .waiting .rates) rates (n * n) (l .plan .square) (omega (arith, square-small n (l .plan .few-ports), ok .waiting-size)) in
       record { ports = l .ports; frame = l .frame; plan = rw (same, sym (l .ports), sym (l .frame)) (l .plan) }
 
-  sound-load : CanLoad s n t rates → Sound (withPlans s (s .running) loadedPlan 1) store
+  pub sound-load : CanLoad s n t rates → Sound (withPlans s (s .running) loadedPlan 1) store
   sound-load l =
       record {
         plan = ok .plan;

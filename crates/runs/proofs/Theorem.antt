@@ -41,10 +41,10 @@ module _ (run : Run) where
   unfolding startOf
   verdict-is = sym (ap (λ (r : Reply). r .verdict) (run .starts)) ∙ run .accepted
 
-  start-facts : CanStart n T (run .rates) (run .depth) (length (run .store))
+  pub start-facts : CanStart n T (run .rates) (run .depth) (length (run .store))
   start-facts = can-start n T (run .rates) (run .depth) (length (run .store)) verdict-is
 
-  begins : s₀ ≡ freshWith (planOf n T (run .rates)) (run .depth)
+  pub begins : s₀ ≡ freshWith (planOf n T (run .rates)) (run .depth)
   unfolding startOf
   begins = ap (λ (r : Reply). r .state) (run .starts)
       ∙ ap (λ (v : Verdict). ifAccepted v (freshWith (planOf n T (run .rates)) (run .depth)) (freshWith noPlan 0)) verdict-is
@@ -55,7 +55,7 @@ module _ (run : Run) where
     pub ports : s .running .ports ≡ run .ports
     pub frame : s .running .frame ≡ run .frame
 
-  known-start : Known s₀ (run .store)
+  pub known-start : Known s₀ (run .store)
   unfolding freshWith
   known-start =
       subst (λ (s : Switch). Known s (run .store)) (sym begins)
@@ -66,7 +66,7 @@ module _ (run : Run) where
       let r = event-keeps s store e (k .sound) h in
       record { sound = r .sound; ports = r .ports ∙ k .ports; frame = r .frame ∙ k .frame }
 
-  known-run : (s : Switch) (store : List ℕ) (es : List Event) → Known s store → Follow s store es → Known (finalState s es) (finalStore store es)
+  pub known-run : (s : Switch) (store : List ℕ) (es : List Event) → Known s store → Follow s store es → Known (finalState s es) (finalStore store es)
   known-run s store [] k h = k
   known-run s store (e ∷ es) k h = known-run (stateAfter e) (storeAfter store e) es (keeps s store e k (h .0)) (h .1)
 

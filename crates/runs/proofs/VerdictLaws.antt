@@ -8,13 +8,13 @@ use lib.Dec.{ltb, leb, eqb}
 use Rattle.refusal.specs.Chain.{refuseIf, andThen}
 use Rattle.refusal.specs.Number.{numberOf, verdictNumberOf}
 use Rattle.refusal.specs.declared.Refusal.{Refusal}
-use Rattle.refusal.specs.declared.Refusal.the-variants.{StoreLength, PlanMismatch, PlanWaits, NoSuchPort, QueueFull, StateInvalid, CrosspointFull}
+use Rattle.refusal.specs.declared.Refusal.the-variants.{StoreLength, PlanMismatch, NoSuchPort, QueueFull, StateInvalid, CrosspointFull}
 use Rattle.refusal.specs.declared.Verdict.{Verdict}
 use Rattle.refusal.specs.declared.Verdict.the-variants.{Accepted, Refused}
 use Rattle.plan.specs.Lines.{flowOf}
 use Rattle.plan.specs.Accept.{acceptOf}
 use Rattle.plan.proofs.AcceptLaws.{accept-number}
-use Rattle.crossbar.specs.State.{hasWaiting, queueAt, storeFits}
+use Rattle.crossbar.specs.State.{queueAt, storeFits}
 use Rattle.crossbar.specs.Valid.{validOf}
 use Rattle.crossbar.specs.Arrive.{arriveVerdict}
 use Rattle.crossbar.specs.Load.{loadVerdict}
@@ -55,8 +55,7 @@ module _ (s : Switch) (valid : validOf s ≡ true) where
   load-fine n t rates =
       rw valid
       (then-fine (acceptOf n t rates) _ (accept-fine n t rates)
-      (refuse-fine (not (eqb n (s .running .ports) && eqb t (s .running .frame))) PlanMismatch _ (omega arith)
-      (refuse-fine (hasWaiting s) PlanWaits _ (omega arith) accepted-fine)))
+      (refuse-fine (not (eqb n (s .running .ports) && eqb t (s .running .frame))) PlanMismatch _ (omega arith) accepted-fine))
 
   pub step-fine : hasRoom (takeoverOf s) ≡ true → (len : ℕ) → Fine (stepVerdict s len)
   unfolding stepVerdict

@@ -34,7 +34,7 @@ mul-overlay : tie.Need-mul-overlay
 mul-overlay c = omega (arith, room (c .before))
 
 overlay-requires : tie.Need-overlay-requires
-overlay-requires c κs = room (c .before)
+overlay-requires c κs = omega (arith, room (c .before))
 
 returns-2 : tie.Need-returns-2
 returns-2 c = load-accepted _ _ _ _ (c .before .before .before .before .load-verdict .ensures) (c .before .before .enum-told .given .1) (c .overlay .ensures)

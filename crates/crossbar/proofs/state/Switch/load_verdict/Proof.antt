@@ -63,27 +63,13 @@ returns-4 c =
 returns-5 : tie.Need-returns-5
 unfolding loadVerdict
 returns-5 c =
-    let c2 = c .before .before .before .before in
+    let c2 = c .before .before in
     let c1 = c2 .before .before in
     simp (
       valid-pass (c1 .before .before .before),
       plan-pass c1,
       eq-eqb _ _ (c2 .if2 .left),
-      eq-eqb _ _ (c .before .before .if3 .left),
-      ne-eqb _ _ (c .if4 .taken),
-    )
-
-returns-6 : tie.Need-returns-6
-unfolding loadVerdict
-returns-6 c =
-    let c2 = c .before .before .before .before in
-    let c1 = c2 .before .before in
-    simp (
-      valid-pass (c1 .before .before .before),
-      plan-pass c1,
-      eq-eqb _ _ (c2 .if2 .left),
-      eq-eqb _ _ (c .before .before .if3 .left),
-      eq-eqb _ _ (c .if4 .left),
+      eq-eqb _ _ (c .if3 .left),
     )
 
 pub load-verdict-spec : {M : Type 1} → statement M
@@ -98,5 +84,4 @@ load-verdict-spec =
     returns-2
     returns-3
     returns-4
-    returns-5
-    returns-6)
+    returns-5)
