@@ -1,5 +1,6 @@
 // The limits of the switch, tried from both sides: case C11 of the scope, then the small example of each row of its
-// table "What is sent back" beside a neighbour that is accepted, that of row 9 accepted since request L5, then texts beside those that keep to the rules.
+// table "What is sent back" beside a neighbour that is accepted, then texts beside those that keep to the rules. The example of
+// row 9, a load while a plan waits, is accepted since request L5.
 use crate::plans::file;
 use crate::plans::frame;
 use crate::plans::plan;

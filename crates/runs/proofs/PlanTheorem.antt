@@ -113,6 +113,7 @@ module _ (run : Run) where
         let second-there : q ≡ loadOf (loadOf without n t first .state) m u second = parts-between .1 .0 ∙ ap (λ (x : Switch). loadOf x m u second) reached in
         record {
           same-between = hidden .events;
+          same-store = hidden .left;
           same-after = second-there ∙ load-twice without n t m u first second first-there (load-told _ m u second second-there f);
         }
 

@@ -19,7 +19,7 @@ use Rattle.runs.specs.Event.{Call, Event, callOf, stateAfter, storeAfter
 use Rattle.runs.specs.Event.Lent.{own, other}
 use Rattle.runs.specs.Event.Call.{step, arrive, load}
 use Rattle.runs.specs.Event.Event.{stepped, arrived, loaded}
-use Rattle.runs.specs.Run.{Follow, finalState, answered, definedRun, callsOf}
+use Rattle.runs.specs.Run.{Happens, Follow, finalState, finalStore, answered, definedRun, callsOf}
 use Rattle.runs.specs.Plans.{BeginsFrame, PutsInWaiting, StillWaits, whileWaiting}
 use Rattle.runs.proofs.RunLaws.{happens-answered}
 use Rattle.runs.proofs.SoundLaws.{Sound}
@@ -107,28 +107,46 @@ module _ (n t : ℕ) (rates : List ℕ) where
   store-with store (arrived (other l) i j cell r left) = refl
   store-with store (loaded m u new r) = refl
 
+  -- an event in the state with the plan in waiting, and the same call's without it
+  record Beside (s : Switch) (store : List ℕ) (e without : Event) : Type 0 where
+    same : e ≡ whileWaiting n t rates without
+    state : stateAfter e ≡ with (stateAfter without)
+    left : storeAfter store e ≡ storeAfter store without
+    sound : Sound (stateAfter without) (storeAfter store without)
+    can : CanLoad (stateAfter without) n t rates
+
+  beside : {s : Switch} {store : List ℕ} → Sound s store → CanLoad s n t rates → (e : Event) → Happens (with s) store e → (BeginsFrame (with s) e → ⊥)
+      → (PutsInWaiting e → ⊥) → Beside s store e (answered s store (callOf e))
+  beside {s} {store} ok can e h b p =
+      let without = answered s store (callOf e) in
+      let is = happens-answered (with s) store e h in
+      let same : e ≡ whileWaiting n t rates without = is ∙ call-with ok can (callOf e) (subst (λ (x : Event). BeginsFrame (with s) x → ⊥) is b) (subst (λ (x : Event). PutsInWaiting x → ⊥) is p) in
+      let kept = call-keeps s store ok (callOf e) (allowed (with s) store e h) in
+      record {
+        same = same;
+        state = ap stateAfter same ∙ state-with without;
+        left = ap (storeAfter store) same ∙ store-with store without;
+        sound = kept .sound;
+        can = record { valid = sound-valid (kept .sound); plan = can .plan; ports = can .ports ∙ sym (kept .ports); frame = can .frame ∙ sym (kept .frame) };
+      }
+
   -- What a list of calls comes to while the plan waits.
   pub record Unseen (s : Switch) (store : List ℕ) (es : List Event) : Type 0 where
     pub events : es ≡ map (whileWaiting n t rates) (definedRun s store (callsOf es))
     pub state : finalState (with s) es ≡ with (finalState s (definedRun s store (callsOf es)))
+    pub left : finalStore store es ≡ finalStore store (definedRun s store (callsOf es))
     pub can : CanLoad (finalState s (definedRun s store (callsOf es))) n t rates
 
   pub unseen : (s : Switch) (store : List ℕ) (es : List Event) → Sound s store → CanLoad s n t rates → Follow (with s) store es → StillWaits (with s) es → Unseen s store es
   unfolding definedRun callsOf
-  unseen s store [] ok can h w = record { events = refl; state = refl; can = can }
+  unseen s store [] ok can h w = record { events = refl; state = refl; left = refl; can = can }
   unseen s store (e ∷ es) ok can h w =
-      let c = callOf e in
-      let mine = answered s store c in
-      let first = happens-answered (with s) store e (h .0) in
-      let there = subst (λ (x : Event). (BeginsFrame (with s) x → ⊥) × (PutsInWaiting x → ⊥)) first (w .0, w .1) in
-      let same : e ≡ whileWaiting n t rates mine = first ∙ call-with ok can c (there .0) (there .1) in
-      let state = ap stateAfter same ∙ state-with mine in
-      let left = ap (storeAfter store) same ∙ store-with store mine in
-      let kept = call-keeps s store ok c (allowed (with s) store e (h .0)) in
-      let still : CanLoad (stateAfter mine) n t rates = record { valid = sound-valid (kept .sound); plan = can .plan; ports = can .ports ∙ sym (kept .ports); frame = can .frame ∙ sym (kept .frame) } in
-      let rest = unseen (stateAfter mine) (storeAfter store mine) es (kept .sound) still (subst₂ (λ (u : Switch) (l : List ℕ). Follow u l es) state left (h .1)) (subst (λ (u : Switch). StillWaits u es) state (w .2)) in
+      let one = beside ok can e (h .0) (w .0) (w .1) in
+      let follow = subst₂ (λ (u : Switch) (l : List ℕ). Follow u l es) (one .state) (one .left) (h .1) in
+      let rest = unseen _ _ es (one .sound) (one .can) follow (subst (λ (u : Switch). StillWaits u es) (one .state) (w .2)) in
       record {
-        events = rw (← same) (ap (λ (l : List Event). e ∷ l) (rest .events));
-        state = ap (λ (u : Switch). finalState u es) state ∙ rest .state;
+        events = rw (← one .same) (ap (λ (l : List Event). e ∷ l) (rest .events));
+        state = ap (λ (u : Switch). finalState u es) (one .state) ∙ rest .state;
+        left = ap (λ (l : List ℕ). finalStore l es) (one .left) ∙ rest .left;
         can = rest .can;
       }

@@ -49,9 +49,10 @@ whileWaiting n t rates (loaded m u new r) =
     loaded m u new (record { verdict = r .verdict; state = withWaiting (r .state) n t rates })
 
 -- A first plan waits from state s on, and then a second load gets the answer q. Without the first load every answer between
--- would have been the same, and so would be the answer to the second with its state, and all that follows.
+-- would have been the same, and so would be the answer to the second with its state, the store, and so all that follows.
 pub record NeverRan (s : Switch) (store : List ℕ) (n t : ℕ) (first : List ℕ) (between : List Event) (m u : ℕ) (second : List ℕ) (q : Reply) : Type 0 where
   pub same-between : between ≡ map (whileWaiting n t first) (definedRun s store (callsOf between))
+  pub same-store : finalStore store between ≡ finalStore store (definedRun s store (callsOf between))
   pub same-after : q ≡ loadOf (finalState s (definedRun s store (callsOf between))) m u second
 
 pub record PlanPromise (run : Run) : Type 0 where
