@@ -83,7 +83,7 @@ record Computed : Type 0 where
   new-rate : HasRate 0 0 3 l5Late
   first-accepted : first .verdict ≡ Accepted
   second-accepted : second .verdict ≡ Accepted
-  first-behind-slot-0 : first .state .slot ≡ 1
+  first-after-slot-0 : first .state .slot ≡ 1
 
 computed : Computed
 unfolding runOf definedRun startOf startVerdict freshWith overlaid arriveOf arriveVerdict loadOf loadVerdict stepOf stepVerdict afterSlot takeoverOf validOf plansValid planValid flowsValid portsValid portValid depthInRange storeFits boardChoices headChoices choicesOf roomForAll roomFor movesOf boardMoves moveOf sendsOf headSends sendOf countsOf countsAfter clearedBelow chooseOf bestOf better eligible roundedUp acceptOf portsInRange frameInRange rowSum columnSum listBelow
@@ -93,7 +93,7 @@ computed =
       new-rate = (λ _. refl, (λ _. refl, (λ _. refl, (λ _. refl, tt))));
       first-accepted = refl;
       second-accepted = refl;
-      first-behind-slot-0 = refl;
+      first-after-slot-0 = refl;
     }
 
 pub old-rate : HasRate 0 0 1 l5Early
@@ -106,4 +106,4 @@ pub first-never-ran : NeverRan (finalState (started 2 4 l5Rates .state) before) 
 unfolding run-of-l5 own-run
 first-never-ran =
     plans-of-every-run run-of-l5 .replaced-never-ran before 2 4 l5First first (stepped own slot ∷ []) 2 4 l5Second second after there
-    (computed .first-accepted) (λ h. omega (arith, h .1, computed .first-behind-slot-0), λ h. h, tt) (computed .second-accepted)
+    (computed .first-accepted) (λ h. omega (arith, h .1, computed .first-after-slot-0), λ h. h, tt) (computed .second-accepted)

@@ -97,7 +97,7 @@ l4 =
     ∷ (heldAfter 0 0 6 l4Run is 2)
     ∷ []
 
--- L5, a plan that is replaced: N = 2, T = 4, rows 1 1, 1 1. Behind slot 0 rows 4 0, 0 4 are loaded, and behind slot 1 rows
+-- L5, a plan that is replaced: N = 2, T = 4, rows 1 1, 1 1. After slot 0 rows 4 0, 0 4 are loaded, and after slot 1 rows
 -- 3 1, 1 3. Flow (0, 0) has rate 1 through this frame and 3 through the next one, never 4. It is served in slot 0, and in
 -- slots 0, 2, 3 of the second frame, in place of all four.
 abbrev pub l5Rates : List ℕ

@@ -63,9 +63,9 @@ module _ {s : Switch} {store : List ℕ} (ok : Sound s store) where
       go true e = rw (taken s (here e)) refl
 
   -- in slot 0 the plan accepted last runs
-  pub last-runs : (lent : List ℕ) → s .slot ≡ 0 → stepOf s lent .verdict ≡ Accepted → planRates (stepOf s lent .state .running) ≡ standing s
+  step-runs : (lent : List ℕ) → s .slot ≡ 0 → stepOf s lent .verdict ≡ Accepted → planRates (stepOf s lent .state .running) ≡ standing s
   unfolding stepOf afterSlot
-  last-runs lent zero e =
+  step-runs lent zero e =
       let running : planRates (takeoverOf s .running) ≡ standing (takeoverOf s) = rw (none-waits zero) refl in
       rw e (running ∙ takeover-standing)
 
@@ -84,6 +84,13 @@ module _ {s : Switch} {store : List ℕ} (ok : Sound s store) where
       go : (v : Verdict) → loadVerdict s n t rates ≡ v → standing (loadOf s n t rates .state) ≡ ifAccepted (loadVerdict s n t rates) rates (standing s)
       go Accepted e = rw e (laid-rates (s .waiting .rates) n t rates (ok .waiting-size) (can-load s n t rates e .plan))
       go (Refused r) e = rw e refl
+
+  pub call-runs : (c : Call) → BeginsFrame s (answered s store c) → planRates (stateAfter (answered s store c) .running) ≡ standing s
+  call-runs (step own) b = step-runs store (b .1) (b .0)
+  call-runs (step (other l)) b = step-runs l (b .1) (b .0)
+  call-runs (arrive own i j cell) b = absurd b
+  call-runs (arrive (other l) i j cell) b = absurd b
+  call-runs (load n t rates) b = absurd b
 
   pub call-standing : (c : Call) → standing (stateAfter (answered s store c)) ≡ acceptedAfter (standing s) (answered s store c)
   unfolding loadOf

@@ -6,21 +6,18 @@ use Rattle.refusal.specs.declared.Verdict.the-variants.{Accepted}
 use Rattle.planpair.specs.Rates.{planRates}
 use Rattle.crossbar.specs.Start.{freshWith}
 use Rattle.crossbar.specs.Load.{loadOf}
-use Rattle.crossbar.specs.Step.{stepOf}
 use Rattle.crossbar.specs.declared.state.Switch.{Switch}
 use Rattle.crossbar.specs.declared.state.Reply.{Reply}
-use Rattle.crossbar.specs.declared.state.SlotReply.{SlotReply}
 use Rattle.crossbar.proofs.StartLaws.{started-rates}
 use Rattle.crossbar.proofs.LoadLaws.{can-load, loads, load-told, load-state, load-twice}
-use Rattle.runs.specs.Event.{Lent, Event, callOf, stateAfter, storeAfter}
-use Rattle.runs.specs.Event.Lent.{own, other}
-use Rattle.runs.specs.Event.Event.{stepped, loaded}
-use Rattle.runs.specs.Run.{Run, Happens, Follow, finalState, finalStore, definedRun, callsOf}
+use Rattle.runs.specs.Event.{Event, callOf, stateAfter, storeAfter}
+use Rattle.runs.specs.Event.Event.{loaded}
+use Rattle.runs.specs.Run.{Run, Happens, Follow, finalState, finalStore, answered, definedRun, callsOf}
 use Rattle.runs.specs.Plans.{acceptedAfter, lastAccepted, BeginsFrame, StillWaits, NeverRan, PlanPromise}
 use Rattle.runs.proofs.RunLaws.{happens-answered, follow-append}
 use Rattle.runs.proofs.SoundLaws.{Sound}
 use Rattle.runs.proofs.CallLaws.{event-keeps}
-use Rattle.runs.proofs.PlanLaws.{standing, last-runs, call-standing, call-stays}
+use Rattle.runs.proofs.PlanLaws.{standing, call-runs, call-standing, call-stays}
 use Rattle.runs.proofs.ReplacedLaws.{unseen}
 use Rattle.runs.proofs.Theorem.{start-facts, begins, known-start, known-run}
 
@@ -63,26 +60,21 @@ module _ (run : Run) where
     standing-there : standing s ≡ lastAccepted (run .rates) before
     standing-there = standing-run s₀ (run .store) before (known-start run .sound) (parts .0) ∙ ap (λ (rates : List ℕ). lastAccepted rates before) standing-start
 
-  -- whatever list a step was lent, its answer is the definition's
-  steps : (u : Switch) (l : List ℕ) (lent : Lent) {r : SlotReply} → Happens u l (stepped lent r) → (x : List ℕ) × (r ≡ stepOf u x)
-  steps u l own h = (l, h)
-  steps u l (other x) h = (x, h .1)
+  module _ (before : List Event) (e : Event) (after : List Event) (cut : run .events ≡ before ++ (e ∷ after)) where
+    abbrev at : Switch
+    at = finalState s₀ before
 
-  takes-over : (before : List Event) (lent : Lent) (r : SlotReply) (after : List Event) → run .events ≡ before ++ (stepped lent r ∷ after)
-      → r .verdict ≡ Accepted → finalState s₀ before .slot ≡ 0 → planRates (r .state .running) ≡ lastAccepted (run .rates) before
-  takes-over before lent r after cut e zero =
-      let is = steps _ _ lent (rest-follows before (stepped lent r ∷ after) cut .0) in
-      let accepted = ap (λ (x : SlotReply). x .verdict) (sym (is .1)) ∙ e in
-      ap (λ (x : SlotReply). planRates (x .state .running)) (is .1)
-      ∙ last-runs (sound-there before (stepped lent r ∷ after) cut) (is .0) zero accepted
-      ∙ standing-there before (stepped lent r ∷ after) cut
+    is : e ≡ answered at (finalStore (run .store) before) (callOf e)
+    is = happens-answered at _ e (rest-follows before (e ∷ after) cut .0)
 
-  stays : (before : List Event) (e : Event) (after : List Event) → run .events ≡ before ++ (e ∷ after)
-      → (BeginsFrame (finalState s₀ before) e → ⊥) → stateAfter e .running ≡ finalState s₀ before .running
-  stays before e after cut h =
-      let u = finalState s₀ before in
-      let is = happens-answered u _ e (rest-follows before (e ∷ after) cut .0) in
-      ap (λ (x : Event). stateAfter x .running) is ∙ call-stays u _ (callOf e) (λ b. h (subst (BeginsFrame u) (sym is) b))
+    takes-over : BeginsFrame at e → planRates (stateAfter e .running) ≡ lastAccepted (run .rates) before
+    takes-over b =
+        ap (λ (x : Event). planRates (stateAfter x .running)) is
+        ∙ call-runs (sound-there before (e ∷ after) cut) (callOf e) (subst (BeginsFrame at) is b)
+        ∙ standing-there before (e ∷ after) cut
+
+    stays : (BeginsFrame at e → ⊥) → stateAfter e .running ≡ at .running
+    stays h = ap (λ (x : Event). stateAfter x .running) is ∙ call-stays at _ (callOf e) (λ b. h (subst (BeginsFrame at) (sym is) b))
 
   module _ (before : List Event) (n t : ℕ) (first : List ℕ) (r : Reply) (between : List Event) (m u : ℕ) (second : List ℕ) (q : Reply) (after : List Event)
       (cut : run .events ≡ before ++ (loaded n t first r ∷ (between ++ (loaded m u second q ∷ after)))) where

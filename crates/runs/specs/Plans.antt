@@ -8,12 +8,11 @@ use Rattle.planpair.specs.Rates.{planRates}
 use Rattle.crossbar.specs.Load.{withWaiting, loadOf}
 use Rattle.crossbar.specs.declared.state.Switch.{Switch}
 use Rattle.crossbar.specs.declared.state.Reply.{Reply}
-use Rattle.crossbar.specs.declared.state.SlotReply.{SlotReply}
-use Rattle.runs.specs.Event.{Lent, Event, stateAfter}
+use Rattle.runs.specs.Event.{Event, stateAfter}
 use Rattle.runs.specs.Event.Event.{stepped, arrived, loaded}
 use Rattle.runs.specs.Run.{Run, finalState, finalStore, definedRun, callsOf}
 
--- the rates of the plan accepted last, where `rates` were accepted before
+-- the rates of the plan accepted last, after one event and after several, where `rates` were those before them
 abbrev pub acceptedAfter : List ℕ → Event → List ℕ
 acceptedAfter rates (stepped lent r) = rates
 acceptedAfter rates (arrived lent i j cell r left) = rates
@@ -29,6 +28,7 @@ BeginsFrame s (stepped lent r) = (r .verdict ≡ Accepted) × (s .slot ≡ 0)
 BeginsFrame s (arrived lent i j cell r left) = ⊥
 BeginsFrame s (loaded n t rates r) = ⊥
 
+-- an event is a load that is accepted
 abbrev pub PutsInWaiting : Event → Type 0
 PutsInWaiting (stepped lent r) = ⊥
 PutsInWaiting (arrived lent i j cell r left) = ⊥
@@ -57,9 +57,9 @@ pub record NeverRan (s : Switch) (store : List ℕ) (n t : ℕ) (first : List �
 
 pub record PlanPromise (run : Run) : Type 0 where
   -- "the plan that takes over is the last one accepted"
-  pub last-takes-over : (before : List Event) (lent : Lent) (r : SlotReply) (after : List Event) → run .events ≡ before ++ (stepped lent r ∷ after)
-      → r .verdict ≡ Accepted → finalState (run .reply .state) before .slot ≡ 0 → planRates (r .state .running) ≡ lastAccepted (run .rates) before
-  -- and no plan takes over but in slot 0
+  pub last-takes-over : (before : List Event) (e : Event) (after : List Event) → run .events ≡ before ++ (e ∷ after)
+      → BeginsFrame (finalState (run .reply .state) before) e → planRates (stateAfter e .running) ≡ lastAccepted (run .rates) before
+  -- and none takes over but where a frame begins
   pub stays : (before : List Event) (e : Event) (after : List Event) → run .events ≡ before ++ (e ∷ after)
       → (BeginsFrame (finalState (run .reply .state) before) e → ⊥) → stateAfter e .running ≡ finalState (run .reply .state) before .running
   -- "A plan that was replaced never ran"
