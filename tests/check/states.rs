@@ -1,4 +1,4 @@
-//! Hand-made states: every call on each, where number 12 or 13 is due and where it just isn't, and two loads on each.
+//! Hand-made states: every call on each, where number 12 or 13 is due and where it just isn't, and two loads on valid ones.
 
 use super::calls::{self, describe, Outcome};
 use super::guarded::Guarded;
