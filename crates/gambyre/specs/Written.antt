@@ -6,8 +6,8 @@ use Rattle.refusal.specs.Number.{verdictNumberOf}
 use Rattle.refusal.specs.Outcome.{Outcome}
 use Rattle.crossbar.specs.Arrive.{Arrival}
 use Rattle.planpair.specs.Rates.{overlaid}
-use Rattle.gambyre.specs.Records.{replyRecord}
-use Rattle.gambyre.specs.declared.records.ReplyRecord.{ReplyRecord}
+use Rattle.records.specs.Records.{replyRecord}
+use Rattle.records.specs.declared.ReplyRecord.{ReplyRecord}
 
 pub record Numbered : Type 0 where
   pub number : ℕ

@@ -2,11 +2,11 @@
 ghost use mathlib.Core.Path.{_≡_};
 ghost use Rattle.multiplexer.specs.Choose.{chooseOf};
 ghost use Rattle.multiplexer.specs.Count.{countOf, endFrameOf};
-ghost use Rattle.gambyre.specs.Records.{choiceRecord, choiceIn};
-use crate::records::ChoiceRecord;
-use crate::records::choice_in;
-use crate::records::choice_record;
+ghost use Rattle.records.specs.Records.{choiceRecord, choiceIn};
 use multiplexer::Multiplexer;
+use records::ChoiceRecord;
+use records::choice_in;
+use records::choice_record;
 
 #[no_mangle]
 pub extern "C" fn gambyre_choose(

@@ -4,14 +4,14 @@ ghost use Rattle.crossbar.specs.Start.{startOf};
 ghost use Rattle.crossbar.specs.Arrive.{arriveOf};
 ghost use Rattle.crossbar.specs.Load.{loadOf};
 ghost use Rattle.crossbar.specs.Step.{stepOf};
-ghost use Rattle.gambyre.specs.Records.{replyRecord, slotRecord};
+ghost use Rattle.records.specs.Records.{replyRecord, slotRecord};
 ghost use Rattle.gambyre.specs.Written.{arrived, arrivalRecord};
-use crate::records::ReplyRecord;
-use crate::records::SlotRecord;
-use crate::records::reply_record;
-use crate::records::slot_record;
 use crossbar::start::start;
 use crossbar::state::Switch;
+use records::ReplyRecord;
+use records::SlotRecord;
+use records::reply_record;
+use records::slot_record;
 
 #[no_mangle]
 pub extern "C" fn gambyre_start(

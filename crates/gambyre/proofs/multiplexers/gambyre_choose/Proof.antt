@@ -1,6 +1,6 @@
 use borrow.Author.Needs.{needs}
 use mathlib.Core.Path.{ap, _∙_}
-use Rattle.gambyre.specs.Records.{choiceRecord}
+use Rattle.records.specs.Records.{choiceRecord}
 use Rattle.gambyre.proofs.multiplexers.gambyre_choose.Statement.{statement}
 use Rattle.gambyre.proofs.multiplexers.gambyre_choose.Tie as tie
 

@@ -1,6 +1,6 @@
 use borrow.Author.Needs.{needs}
 use mathlib.Core.Path.{ap, _∙_}
-use Rattle.gambyre.specs.Records.{readingRecord}
+use Rattle.records.specs.Records.{readingRecord}
 use Rattle.gambyre.proofs.plans.gambyre_read.Statement.{statement}
 use Rattle.gambyre.proofs.plans.gambyre_read.Tie as tie
 

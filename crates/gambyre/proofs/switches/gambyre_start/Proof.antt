@@ -1,6 +1,6 @@
 use borrow.Author.Needs.{needs}
 use mathlib.Core.Path.{ap, _∙_}
-use Rattle.gambyre.specs.Records.{replyRecord}
+use Rattle.records.specs.Records.{replyRecord}
 use Rattle.gambyre.proofs.switches.gambyre_start.Statement.{statement}
 use Rattle.gambyre.proofs.switches.gambyre_start.Tie as tie
 

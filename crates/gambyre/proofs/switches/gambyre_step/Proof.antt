@@ -1,6 +1,6 @@
 use borrow.Author.Needs.{needs}
 use mathlib.Core.Path.{ap, _∙_}
-use Rattle.gambyre.specs.Records.{slotRecord}
+use Rattle.records.specs.Records.{slotRecord}
 use Rattle.gambyre.proofs.switches.gambyre_step.Statement.{statement}
 use Rattle.gambyre.proofs.switches.gambyre_step.Tie as tie
 

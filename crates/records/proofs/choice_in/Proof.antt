@@ -1,6 +1,6 @@
 use borrow.Author.Tests.{eq-eqb, ne-eqb}
-use Rattle.gambyre.proofs.records.choice_in.Statement.{statement}
-use Rattle.gambyre.proofs.records.choice_in.Tie as tie
+use Rattle.records.proofs.choice_in.Statement.{statement}
+use Rattle.records.proofs.choice_in.Tie as tie
 
 returns : tie.Need-returns
 returns c = simp (eq-eqb _ 0 (c .if1 .taken))

@@ -1,6 +1,6 @@
 use borrow.Author.Needs.{needs}
-use Rattle.gambyre.proofs.records.port_record.Statement.{statement}
-use Rattle.gambyre.proofs.records.port_record.Tie as tie
+use Rattle.records.proofs.port_record.Statement.{statement}
+use Rattle.records.proofs.port_record.Tie as tie
 
 kind-of-requires : tie.Need-kind-of-requires
 kind-of-requires c κs = search needs

@@ -16,11 +16,11 @@ use Rattle.fabric.specs.declared.flow.Answer.the-variants as answer
 use Rattle.fabric.specs.declared.flow.Port.{Port}
 use Rattle.crossbar.specs.declared.state.Reply.{Reply}
 use Rattle.crossbar.specs.declared.state.SlotReply.{SlotReply}
-use Rattle.gambyre.specs.declared.records.PortRecord.{PortRecord}
-use Rattle.gambyre.specs.declared.records.ChoiceRecord.{ChoiceRecord}
-use Rattle.gambyre.specs.declared.records.ReplyRecord.{ReplyRecord}
-use Rattle.gambyre.specs.declared.records.SlotRecord.{SlotRecord}
-use Rattle.gambyre.specs.declared.records.ReadingRecord.{ReadingRecord}
+use Rattle.records.specs.declared.PortRecord.{PortRecord}
+use Rattle.records.specs.declared.ChoiceRecord.{ChoiceRecord}
+use Rattle.records.specs.declared.ReplyRecord.{ReplyRecord}
+use Rattle.records.specs.declared.SlotRecord.{SlotRecord}
+use Rattle.records.specs.declared.ReadingRecord.{ReadingRecord}
 
 -- "idle; empty (served, nothing to move), with the other port; moved, with the other port and the cell": the other port,
 -- 0 where an answer has none

@@ -1,9 +1,9 @@
-// What the exported functions answer: the operations' answers with numbers in the place of their cases. Verdicts and
+// What the exported functions of gambyre answer: the operations' answers with numbers in the place of their cases. Verdicts and
 // kinds are enums in the header, and an enum of C has 32 bits.
 ghost use mathlib.Core.Path.{_≡_};
 ghost use Rattle.refusal.specs.Number.{verdictNumberOf};
 ghost use Rattle.fabric.specs.Answer.{kindOf};
-ghost use Rattle.gambyre.specs.Records.{otherOf, cellOf, answerRecord, portRecords, choiceRecord, choiceIn, replyRecord, slotRecord, readingRecord};
+ghost use Rattle.records.specs.Records.{otherOf, cellOf, answerRecord, portRecords, choiceRecord, choiceIn, replyRecord, slotRecord, readingRecord};
 use crossbar::state::Reply;
 use crossbar::state::SlotReply;
 use crossbar::state::Switch;

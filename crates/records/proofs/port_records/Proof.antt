@@ -4,9 +4,9 @@ use mathlib.Core.Path.{_≡_, refl}
 use native.Mathlib.Omega.{arith}
 use native.Mathlib.Numerals.{add-one}
 use Rattle.plan.specs.Range.{mostPorts}
-use Rattle.gambyre.specs.Records.{recordsBelow}
-use Rattle.gambyre.proofs.records.port_records.Statement.{statement}
-use Rattle.gambyre.proofs.records.port_records.Tie as tie
+use Rattle.records.specs.Records.{recordsBelow}
+use Rattle.records.proofs.port_records.Statement.{statement}
+use Rattle.records.proofs.port_records.Tie as tie
 
 abbrev Inv-loop : tie.InvT-loop
 Inv-loop ports records₀ p₀ records p = (p ≤ mostPorts) × (records ≡ recordsBelow ports p)

@@ -1,7 +1,7 @@
 use borrow.Author.Needs.{needs}
 use mathlib.Core.Path.{refl}
-use Rattle.gambyre.proofs.records.choice_record.Statement.{statement}
-use Rattle.gambyre.proofs.records.choice_record.Tie as tie
+use Rattle.records.proofs.choice_record.Statement.{statement}
+use Rattle.records.proofs.choice_record.Tie as tie
 
 enum-told : tie.Need-enum-told
 enum-told c = search needs

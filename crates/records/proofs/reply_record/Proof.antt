@@ -1,7 +1,7 @@
 use borrow.Author.Needs.{needs}
 use mathlib.Core.Path.{refl}
-use Rattle.gambyre.proofs.records.reply_record.Statement.{statement}
-use Rattle.gambyre.proofs.records.reply_record.Tie as tie
+use Rattle.records.proofs.reply_record.Statement.{statement}
+use Rattle.records.proofs.reply_record.Tie as tie
 
 verdict-number-requires : tie.Need-verdict-number-requires
 verdict-number-requires c κs = search needs

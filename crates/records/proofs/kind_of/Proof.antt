@@ -1,6 +1,6 @@
 use borrow.Author.Needs.{needs}
-use Rattle.gambyre.proofs.records.kind_of.Statement.{statement}
-use Rattle.gambyre.proofs.records.kind_of.Tie as tie
+use Rattle.records.proofs.kind_of.Statement.{statement}
+use Rattle.records.proofs.kind_of.Tie as tie
 
 enum-told : tie.Need-enum-told
 enum-told c = search needs
