@@ -1,3 +1,4 @@
 pub mod Text
 pub mod Refused
 pub mod Input
+pub mod TextBelow

@@ -25,7 +25,7 @@ use Rattle.crossbar.specs.Start.{freshWith, startVerdict, startOf}
 use Rattle.crossbar.specs.Takeover.{takeoverOf}
 use Rattle.crossbar.specs.Step.{boardChoices, headChoices, afterSlot, stepVerdict, stepOf}
 use Rattle.console.specs.Text.{digitsOf}
-use Rattle.frame.specs.Text.{textBelow}
+use Rattle.console.specs.TextBelow.{textBelow}
 use Rattle.console.specs.Refused.{refusalLineOf}
 use Rattle.frame.specs.Printout.{headerOf, slotLineOf, slotLinesOf, framePrintoutOf, printoutOf}
 

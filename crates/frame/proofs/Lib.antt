@@ -1,4 +1,3 @@
-pub mod TextLaws
 pub mod PrintoutLaws
 pub mod RoomLaws
 pub mod Examples

@@ -25,7 +25,7 @@ use Rattle.console.specs.Text.{decimalOf, HasRoom, Written}
 use Rattle.frame.specs.Printout.{inputName, outputName, namesOf, headerOf, choiceOf, sideChoicesOf, slotLineOf, slotLinesOf, framePrintoutOf, printoutOf, headerRoom, slotLineRoom, printoutRoom, Prints}
 use Rattle.console.proofs.DigitLaws.{digits-below}
 use Rattle.console.proofs.TextLaws.{refusal-short}
-use Rattle.frame.proofs.TextLaws.{below-short}
+use Rattle.console.proofs.TextBelowLaws.{below-short}
 
 -- the number of a port
 port-short : (p : ℕ) → p < mostPorts → length (decimalOf p) ≤ 2

@@ -20,7 +20,7 @@ use Rattle.crossbar.specs.Step.{stepOf}
 use Rattle.crossbar.specs.declared.state.Switch.{Switch}
 use Rattle.console.specs.Text.{decimalOf}
 use Rattle.console.specs.Refused.{lineEnd, refusalLineOf}
-use Rattle.frame.specs.Text.{textBelow}
+use Rattle.console.specs.TextBelow.{textBelow}
 
 -- "slot"
 abbrev slotName : List ℕ

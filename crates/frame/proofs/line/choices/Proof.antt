@@ -4,10 +4,9 @@ use mathlib.Core.Path.{_≡_, refl, ap}
 use native.Mathlib.Omega.{arith}
 use lib.ListN.{length}
 use Rattle.console.specs.Text.{Written}
-use Rattle.frame.specs.Text.{textBelow}
 use Rattle.frame.specs.Printout.{sideChoicesOf}
-use Rattle.console.proofs.TextLaws.{nothing-written, written-as, written-on}
-use Rattle.frame.proofs.TextLaws.{below-next, below-room}
+use Rattle.console.proofs.TextLaws.{written-as, written-on}
+use Rattle.console.proofs.TextBelowLaws.{below-none, below-next, below-room}
 use Rattle.frame.proofs.line.choices.Statement.{statement}
 use Rattle.frame.proofs.line.choices.Tie as tie
 
@@ -18,8 +17,7 @@ abbrev μ-loop : tie.MeasureT-loop
 μ-loop out₀ from n ports at₀ p₀ out at p = n - p
 
 loop-holds : tie.Need-loop-holds Inv-loop μ-loop
-unfolding textBelow
-loop-holds c = (omega arith, refl, nothing-written _ _)
+loop-holds c = (omega arith, refl, below-none _ _ _)
 
 mul-port : tie.Need-mul-port Inv-loop μ-loop
 mul-port c = search needs

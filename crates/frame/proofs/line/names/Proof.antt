@@ -5,10 +5,9 @@ use mathlib.Core.Path.{_≡_, refl, ap}
 use native.Mathlib.Omega.{arith}
 use lib.ListN.{length, length-append}
 use Rattle.console.specs.Text.{decimalOf, HasRoom, Written}
-use Rattle.frame.specs.Text.{textBelow}
 use Rattle.frame.specs.Printout.{namesOf}
-use Rattle.console.proofs.TextLaws.{nothing-written, written-as, written-on}
-use Rattle.frame.proofs.TextLaws.{below-next, below-room}
+use Rattle.console.proofs.TextLaws.{written-as, written-on}
+use Rattle.console.proofs.TextBelowLaws.{below-none, below-next, below-room}
 use Rattle.frame.proofs.line.names.Statement.{statement}
 use Rattle.frame.proofs.line.names.Tie as tie
 
@@ -30,8 +29,7 @@ room c =
     below-room (name (s .args .side .now)) (c .loop-test .taken) (s .pre) (l .inv .1) (l .inv .2)
 
 loop-holds : tie.Need-loop-holds Inv-loop μ-loop
-unfolding textBelow
-loop-holds c = (omega arith, refl, nothing-written _ _)
+loop-holds c = (omega arith, refl, below-none _ _ _)
 
 put-requires : tie.Need-put-requires Inv-loop μ-loop
 put-requires c κs = omega (arith, simp length-append at (room (c .before) .enough))

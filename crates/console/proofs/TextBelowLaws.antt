@@ -7,10 +7,16 @@ use native.Mathlib.Numerals.{add-one}
 use native.Mathlib.Omega.{arith}
 use lib.ListN.{length, length-append}
 use Rattle.plan.proofs.BelowLaws.{below-or-last}
 use Rattle.console.specs.Text.{HasRoom, Written}
-use Rattle.frame.specs.Text.{textBelow}
+use Rattle.console.specs.TextBelow.{textBelow}
+use Rattle.console.proofs.TextLaws.{nothing-written}
 
 module _ (text : ℕ → List ℕ) where
+  -- before the first one nothing is written
+  pub below-none : (buffer : List ℕ) (at : ℕ) → Written buffer at (textBelow text 0) buffer at
+  unfolding textBelow
+  below-none buffer at = nothing-written buffer at
+
   pub below-next : (p : ℕ) → textBelow text p ++ text p ≡ textBelow text (p + 1)
   unfolding textBelow
   below-next p = rw (add-one p) refl
