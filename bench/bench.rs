@@ -1,6 +1,6 @@
-//! What a slot, an arrival, a load, a choice, reading a text and boosting a plan cost: the proved library through its C
-//! interface, the model by value and the model in place, timed in turn in one run. For a slot also a switch that does
-//! less; for a choice, a text and for boost plain Rust that goes about it as the library does.
+//! What a slot, an arrival, a load, a choice, reading a text, boosting a plan and measuring a record cost: the proved
+//! library through its C interface, the model by value and the model in place, timed in turn in one run. For a slot also a
+//! switch that does less; for a choice, a text, for boost and the meter plain Rust that goes about it as the library does.
 //!
 //! `bench/run.sh` builds and runs it. With PORTS FRAME REPEATS it times one size, each batch that many times: for a
 //! profiler.
@@ -9,6 +9,7 @@ mod boost;
 mod calls;
 mod choice;
 mod clock;
+mod meter;
 mod slot;
 #[path = "../tests"]
 mod tests {
@@ -49,6 +50,7 @@ fn time_all(ports: usize, frame: u32, repeats: usize) {
     time_text(&workload, repeats);
     time_boost(&workload, "periods from 0 on", 0, repeats);
     time_boost(&workload, "the last periods of 32 bits", boost::LAST, repeats);
+    time_meter(&workload, repeats);
 }
 
 fn time_boost(workload: &Workload, periods: &str, first: u32, repeats: usize) {
@@ -56,6 +58,18 @@ fn time_boost(workload: &Workload, periods: &str, first: u32, repeats: usize) {
     report_proved(&format!("boost, N = {}, T = {}, {periods}", workload.ports, workload.frame), proved);
     report_other("plain Rust, sums kept", sums_kept, proved);
     report_other("model, which adds up lines each time", model, proved);
+}
+
+/// A figure is for one slot of the record.
+fn time_meter(workload: &Workload, repeats: usize) {
+    let record = meter::longest_record(workload);
+    for length in meter::LENGTHS {
+        let [proved, one_pass, model] = meter::cover_times(&record, length, repeats);
+        let (ports, frame, slots) = (workload.ports, workload.frame, record.len());
+        report_proved(&format!("cover, for a slot of {slots}, N = {ports}, T = {frame}, l = {length}"), proved);
+        report_other("plain Rust, one pass", one_pass, proved);
+        report_other("model, services before each slot", model, proved);
+    }
 }
 
 fn time_text(workload: &Workload, repeats: usize) {

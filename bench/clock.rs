@@ -42,7 +42,7 @@ pub fn time(work: impl FnOnce()) -> Duration {
 
 pub fn report_proved(what: &str, proved: f64) {
     println!("{what}");
-    println!("  {:<54}{proved:>9.1} ns", "proved, through C");
+    println!("  {:<54}{:>9} ns", "proved, through C", figure(proved));
 }
 
 pub fn report(what: &str, [proved, by_value, in_place]: [f64; 3]) {
@@ -53,5 +53,14 @@ pub fn report(what: &str, [proved, by_value, in_place]: [f64; 3]) {
 
 /// A line beneath the proved one.
 pub fn report_other(name: &str, time: f64, proved: f64) {
-    println!("  {name:<54}{time:>9.1} ns    proved / this {:>7.2}", proved / time);
+    println!("  {name:<54}{:>9} ns    proved / this {:>7.2}", figure(time), proved / time);
+}
+
+/// One decimal, and three where there are but a few nanoseconds.
+fn figure(time: f64) -> String {
+    if time < 10.0 {
+        format!("{time:.3}")
+    } else {
+        format!("{time:.1}")
+    }
 }

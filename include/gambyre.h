@@ -47,9 +47,9 @@
 #include <stdint.h>
 
 /* The version of this header. The archive is of the same one if gambyre_version() == GAMBYRE_VERSION_NUMBER. */
-#define GAMBYRE_VERSION "0.13.0"
+#define GAMBYRE_VERSION "0.14.0"
 #define GAMBYRE_VERSION_MAJOR 0
-#define GAMBYRE_VERSION_MINOR 13
+#define GAMBYRE_VERSION_MINOR 14
 #define GAMBYRE_VERSION_PATCH 0
 #define GAMBYRE_VERSION_NUMBER (GAMBYRE_VERSION_MAJOR * 10000 + GAMBYRE_VERSION_MINOR * 100 + GAMBYRE_VERSION_PATCH)
 
@@ -81,7 +81,8 @@ enum {
     GAMBYRE_MOST_DEPTH = 64,    /* Q, cells of a queue */
     GAMBYRE_MOST_STORE = 16384, /* N * N * Q, numbers of a store */
     GAMBYRE_MOST_FILE = 520,    /* 8 + 2 * N * N, bytes of a plan file */
-    GAMBYRE_MOST_TEXT = 2064    /* 8 * N * N + N, bytes of a plan's text */
+    GAMBYRE_MOST_TEXT = 2064,   /* 8 * N * N + N, bytes of a plan's text */
+    GAMBYRE_MOST_RECORD = 65535 /* slots of a record, see gambyre_cover */
 };
 
 /*
@@ -107,7 +108,8 @@ enum {
     VERDICT(GAMBYRE_CROSSPOINT_FULL, 13, "the step would put a third cell in a crosspoint")         \
     VERDICT(GAMBYRE_NOT_PLAN_FILE, 14, "the file's mark is not LSP or its version is not 1")        \
     VERDICT(GAMBYRE_FILE_LENGTH, 15, "the file has under 8 bytes, or not 8 + 2 * N * N")            \
-    VERDICT(GAMBYRE_NOT_PLAN_TEXT, 16, "the text breaks a rule of gambyre_read_text")
+    VERDICT(GAMBYRE_NOT_PLAN_TEXT, 16, "the text breaks a rule of gambyre_read_text")               \
+    VERDICT(GAMBYRE_RECORD_LENGTH, 17, "the record has fewer than l slots, or more than 65535")
 
 /* What a call answers: that it was accepted, or why it was refused. */
 typedef enum gambyre_verdict GAMBYRE_32_BITS {
@@ -220,6 +222,19 @@ typedef struct gambyre_choice {
     size_t flow;              /* 8  the other port's number; 0 where there is none */
 } gambyre_choice;
 
+/* A stretch of consecutive slots in a record. */
+typedef struct gambyre_stretch {
+    size_t services; /* 0  of the flow in it */
+    size_t place;    /* 8  its first slot's number in the record, from 0 */
+} gambyre_stretch;
+
+/* What the meter answers. All but the verdict is 0 where the call is refused. */
+typedef struct gambyre_cover_reply {
+    gambyre_verdict verdict; /*  0 */
+    gambyre_stretch least;   /*  8  the first of those with the fewest services */
+    gambyre_stretch most;    /* 24  the first of those with the most */
+} gambyre_cover_reply;
+
 /* The library was built for these sizes; a compiler that lays the records out in another way stops here. */
 #define GAMBYRE_HAS_SIZE(type, bytes) typedef char type##_has_size[sizeof(type) == (bytes) ? 1 : -1]
 GAMBYRE_HAS_SIZE(gambyre_verdict, 4);
@@ -235,6 +250,8 @@ GAMBYRE_HAS_SIZE(gambyre_port, 24);
 GAMBYRE_HAS_SIZE(gambyre_slot_reply, 6464);
 GAMBYRE_HAS_SIZE(gambyre_reading, 536);
 GAMBYRE_HAS_SIZE(gambyre_choice, 16);
+GAMBYRE_HAS_SIZE(gambyre_stretch, 16);
+GAMBYRE_HAS_SIZE(gambyre_cover_reply, 40);
 #undef GAMBYRE_HAS_SIZE
 
 /* The version of the archive, as GAMBYRE_VERSION_NUMBER. */
@@ -351,6 +368,28 @@ GAMBYRE_MUST_USE gambyre_multiplexer gambyre_count(gambyre_multiplexer multiplex
 
 /* The end of a frame: the counts of the first n flows, 16 at most, return to 0. */
 GAMBYRE_MUST_USE gambyre_multiplexer gambyre_end_frame(gambyre_multiplexer multiplexer, size_t n);
+
+/* MEASURING. How evenly a head serves its boards. */
+
+/* In a record: the head was idle in this slot. */
+enum { GAMBYRE_IDLE_SLOT = 65535 };
+
+/*
+ * The least and the most services of a flow in any l consecutive slots of a record, and the first place where each
+ * occurs. A record has one number for each slot, GAMBYRE_MOST_RECORD of them at most. The host makes that of head j
+ * from the answers of accepted steps: it appends sends[j].other, the board that the head served, and GAMBYRE_IDLE_SLOT
+ * where sends[j].kind is GAMBYRE_IDLE. `flow` is then the number of a board, or GAMBYRE_IDLE_SLOT, which counts idle
+ * slots. A service counts whether it found a cell or not. With l = 0 the answer is 0 services at place 0, for an empty
+ * record too.
+ * If the record begins with slot 0 of a frame and one plan runs in all its slots, then a flow of rate a > 0 has in any
+ * l > 0 consecutive slots of it
+ *     at most    (l - 1) * a / T, rounded up, plus 1 services, and
+ *     at least   (l + 1) * a / T, rounded down, less 1.
+ * This is proved for every plan and every l, and wherever the record ends, be it in mid-frame. Where another plan takes
+ * over, begin another record.
+ * Refusals: 17, which is due for any l if the record is too long. All numbers of a refused answer are 0.
+ */
+GAMBYRE_MUST_USE gambyre_cover_reply gambyre_cover(const uint16_t *record, size_t record_len, uint16_t flow, size_t l);
 
 #ifdef __cplusplus
 }

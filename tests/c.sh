@@ -6,7 +6,7 @@ set -euo pipefail
 cd "$(dirname "$0")/.."
 archive=target/staticlib/libgambyre.a
 out=target/c
-examples=(examples/label_press examples/periods)
+examples=(examples/label_press examples/periods examples/meter)
 flags=(-Wall -Wextra -Wpedantic -Werror -I include)
 
 fail() {

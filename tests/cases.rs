@@ -1,8 +1,9 @@
 //! The cases for the bench, C1 to C11, and a few of our own, on any implementation of the operations.
 #![allow(dead_code)] // each program that takes this module in uses its own part of it
 
+use crate::model::meter::{Stretch, IDLE_SLOT};
 use crate::model::{Multiplexer, Plan, Switch};
-use crate::operations::{Operations, PortReply};
+use crate::operations::{CoverReply, Operations, PortReply};
 
 pub fn all<S: Operations>() {
     c1_and_c2_choices::<S>();
@@ -22,6 +23,8 @@ pub fn all<S: Operations>() {
     takeover_waits_for_the_frame::<S>();
     l5_replaced_plan::<S>();
     text_of_c3::<S>();
+    l6_stretches::<S>();
+    l6_two_boards::<S>();
     refusal_examples::<S>();
     refusal_order::<S>();
     refusal_order_of_readers::<S>();
@@ -285,6 +288,50 @@ pub fn text_of_c3<S: Operations>() {
     assert_eq!(rates, C3_PLAN);
 }
 
+/// Counted by hand.
+pub fn l6_stretches<S: Operations>() {
+    let record = [0, 1, 0, 0, IDLE_SLOT, 0, 1, 1, 0, IDLE_SLOT];
+    for (flow, length, least, most) in [
+        (0, 3, (1, 4), (2, 0)),
+        (1, 3, (0, 2), (2, 5)),
+        (IDLE_SLOT, 3, (0, 0), (1, 2)),
+        (2, 3, (0, 0), (0, 0)),
+        (0, 1, (0, 1), (1, 0)),
+        (1, 1, (0, 0), (1, 1)),
+        (0, 9, (4, 1), (5, 0)),
+        (0, 10, (5, 0), (5, 0)),
+        (0, 0, (0, 0), (0, 0)),
+    ] {
+        assert_eq!(S::cover(&record, flow, length), covered(least, most), "L6, flow {flow} l {length}");
+    }
+    assert_eq!(S::cover(&[], 0, 0), covered((0, 0), (0, 0)), "L6");
+}
+
+/// The flow of the picture in README.md, which head 0 serves in slots 1, 3 and 7 of each frame of 9. In any 3 slots up to
+/// 2 services are promised, and none at least; there are 2 in slots 1 to 3, and none in slots 4 to 6.
+pub fn l6_two_boards<S: Operations>() {
+    let store = [0; 4];
+    let mut state = start::<S>(2, 9, &[3, 4, 5, 2], 1, &store);
+    let mut record = vec![];
+    for _ in 0..3 * 9 {
+        let reply = S::step(&state, &store);
+        let head = &reply.sends[0];
+        record.push(if head.kind == 0 { IDLE_SLOT } else { head.other as u16 });
+        state = reply.state;
+    }
+    assert_eq!(record[..9], [1, 0, 1, 0, 1, IDLE_SLOT, 1, 0, 1], "L6");
+    assert_eq!(S::cover(&record, 0, 3), covered((0, 4), (2, 1)), "L6");
+    assert_eq!(S::cover(&record, 0, 5), covered((1, 2), (2, 0)), "L6");
+    assert_eq!(S::cover(&record, 0, 9), covered((3, 0), (3, 0)), "L6");
+    assert_eq!(S::cover(&record, IDLE_SLOT, 9), covered((1, 0), (1, 0)), "L6");
+}
+
+/// An accepted answer: services and place.
+fn covered(least: (usize, usize), most: (usize, usize)) -> CoverReply {
+    let stretch = |(services, place)| Stretch { services, place };
+    CoverReply { verdict: 0, least: stretch(least), most: stretch(most) }
+}
+
 /// The small examples of the table of refusals.
 pub fn refusal_examples<S: Operations>() {
     let store = [0; 4];
@@ -319,6 +366,9 @@ pub fn refusal_examples<S: Operations>() {
     assert_eq!(S::read(&second_version).verdict, 14);
     assert_eq!(S::read(&[]).verdict, 15);
     assert_eq!(S::read_text(2, 4, b"1,1\n1,1\n", &mut [0; 4]), 16);
+    let refused = CoverReply { verdict: 17, ..covered((0, 0), (0, 0)) };
+    assert_eq!(S::cover(&[7; 3], 7, 4), refused);
+    assert_eq!(S::cover(&[7; 65_536], 7, 1), refused);
 }
 
 /// Where several conditions hold, the first in the operation's order decides.

@@ -3,12 +3,14 @@
 
 pub mod calls;
 pub mod choices;
+pub mod covers;
 pub mod guarded;
 pub mod handmade;
 pub mod inputs;
 pub mod plans;
 pub mod promises;
 pub mod random;
+pub mod recorded;
 pub mod runs;
 pub mod same;
 pub mod script;

@@ -3,10 +3,10 @@
 //!     rustc --edition 2021 -O tests/compare.rs -L target/staticlib -o target/compare
 //!     target/compare [slots] [seed]
 //!
-//! Four parts: the cases of the scope on the library, every operation on edge and random inputs, hand-made
-//! states, and random runs until at least that many slots were compared. Each part ends at its first
-//! difference. The program exits with 1 if a part found one, or if a refusal, a branch or a kind of text was never
-//! reached.
+//! Five parts: the cases of the scope on the library, every operation on edge and random inputs, the meter on
+//! records made for it, hand-made states, and random runs until at least that many slots were compared. Each part ends
+//! at its first difference. The program exits with 1 if a part found one, or if a refusal, a branch, or a kind of text
+//! or record was never reached.
 
 mod cases;
 mod check;
@@ -16,18 +16,19 @@ mod operations;
 
 use check::random::Random;
 use check::tally::Tally;
-use check::{inputs, runs, states};
+use check::{covers, inputs, runs, states};
 use ffi::Library;
 use std::process::ExitCode;
 use std::time::{Instant, SystemTime, UNIX_EPOCH};
 
 const SLOTS: u64 = 10_000_000;
 const INPUT_ROUNDS: usize = 5_000;
+const COVER_ROUNDS: usize = 10_000;
 const STATE_ROUNDS: usize = 1_500;
 
 type Part = fn(slots: u64, seed: u64, tally: &mut Tally) -> Result<(), String>;
-const PARTS: [(&str, Part); 4] =
-    [("cases", all_cases), ("inputs", all_inputs), ("states", all_states), ("runs", all_runs)];
+const PARTS: [(&str, Part); 5] =
+    [("cases", all_cases), ("inputs", all_inputs), ("covers", all_covers), ("states", all_states), ("runs", all_runs)];
 
 fn main() -> ExitCode {
     let mut numbers = std::env::args().skip(1).map(|argument| argument.parse::<u64>());
@@ -65,11 +66,19 @@ fn main() -> ExitCode {
         println!("never reached: {}", missing.join(", "));
         return ExitCode::FAILURE;
     }
-    let Tally { slots, calls, runs, states, inputs, texts, .. } = tally;
-    let seconds = begun.elapsed().as_secs();
-    print!("no difference: {slots} slots and {calls} calls in {runs} runs, {states} calls on hand-made states, ");
-    println!("{inputs} inputs of operations, {texts} of them texts; seed {seed}, {seconds} s");
+    println!("no difference: {}; seed {seed}, {} s", told_counts(&tally), begun.elapsed().as_secs());
     ExitCode::SUCCESS
+}
+
+fn told_counts(tally: &Tally) -> String {
+    let Tally { slots, calls, runs, states, inputs, texts, covers, recorded, .. } = tally;
+    [
+        format!("{slots} slots and {calls} calls in {runs} runs"),
+        format!("{states} calls on hand-made states"),
+        format!("{inputs} inputs of operations, {texts} of them texts"),
+        format!("{covers} measurements, {recorded} of them of records of runs"),
+    ]
+    .join(", ")
 }
 
 fn all_cases(_slots: u64, _seed: u64, _tally: &mut Tally) -> Result<(), String> {
@@ -78,6 +87,10 @@ fn all_cases(_slots: u64, _seed: u64, _tally: &mut Tally) -> Result<(), String> 
 
 fn all_inputs(_slots: u64, seed: u64, tally: &mut Tally) -> Result<(), String> {
     inputs::compare::<Library>(INPUT_ROUNDS, &mut Random::new(seed), tally)
+}
+
+fn all_covers(_slots: u64, seed: u64, tally: &mut Tally) -> Result<(), String> {
+    covers::compare::<Library>(COVER_ROUNDS, &mut Random::new(seed), tally)
 }
 
 fn all_states(_slots: u64, seed: u64, tally: &mut Tally) -> Result<(), String> {

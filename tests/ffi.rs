@@ -1,7 +1,8 @@
 //! The proved library through its C interface, `include/gambyre.h`.
 
+use crate::model::meter::Stretch;
 use crate::model::{Multiplexer, Plan, Switch};
-use crate::operations::{Choice, Operations, PortReply, Reading, Reply, SlotReply};
+use crate::operations::{Choice, CoverReply, Operations, PortReply, Reading, Reply, SlotReply};
 use std::mem::size_of;
 
 // The sizes that a C compiler gives the header's records on a 64-bit machine.
@@ -14,6 +15,8 @@ const _: () = {
     assert!(size_of::<SlotReply>() == 6464);
     assert!(size_of::<Reading>() == 536);
     assert!(size_of::<Choice>() == 16);
+    assert!(size_of::<Stretch>() == 16);
+    assert!(size_of::<CoverReply>() == 40);
 };
 
 #[link(name = "gambyre", kind = "static")]
@@ -65,6 +68,7 @@ extern "C" {
     fn gambyre_arrive(s: Switch, store: *mut u32, store_len: usize, i: usize, j: usize, cell: u32) -> Reply;
     fn gambyre_load(s: Switch, n: usize, t: u32, rates: *const u16, rates_len: usize) -> Reply;
     fn gambyre_step(s: Switch, store: *const u32, store_len: usize) -> SlotReply;
+    fn gambyre_cover(record: *const u16, record_len: usize, flow: u16, l: usize) -> CoverReply;
 }
 
 pub struct Library;
@@ -145,5 +149,9 @@ impl Operations for Library {
 
     fn step(state: &Switch, store: &[u32]) -> SlotReply {
         unsafe { gambyre_step(*state, store.as_ptr(), store.len()) }
+    }
+
+    fn cover(record: &[u16], flow: u16, length: usize) -> CoverReply {
+        unsafe { gambyre_cover(record.as_ptr(), record.len(), flow, length) }
     }
 }

@@ -7,18 +7,6 @@ cd "$(dirname "$0")/.."
 . tests/programs.sh
 program=${1:-target/bin/frame}
 
-# same NAME COMMAND..: of standard input the program prints what the command prints, and says nothing on standard error. The
-# dumps tell any two outputs apart.
-same() {
-    local name=$1 printed expected
-    shift
-    printed=$("$program" 2>&1 | od -A d -v -c) || fail "$name: the program failed"
-    expected=$("$@" | od -A d -v -c) || fail "$name: there is no expected printout"
-    [ "$printed" = "$expected" ] && return
-    comm -3 --nocheck-order <(echo "$printed") <(echo "$expected") 2>&1 | head -n 6 >&2 || true
-    fail "$name: not the expected printout; above are places where it differs, further right as expected"
-}
-
 # The printout of full_plan: all deadlines of a round of 16 slots are the same, so each port serves the others in order.
 full_printout() {
     local slot

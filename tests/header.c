@@ -1,8 +1,8 @@
 /*
  * Holds include/gambyre.h to the library: the small example of each refusal answers the number behind its name, and so do
  * the kinds of a port's answer and of a choice; the limits and the version are the library's; a period number puts its
- * diagonal first; a hand-made state may hold any byte; an empty list may be NULL. It compiles as C99 and as C++. Exits with 1
- * if something differs.
+ * diagonal first; a hand-made state may hold any byte; a record is measured as it was counted by hand; an empty list may be
+ * NULL. It compiles as C99 and as C++. Exits with 1 if something differs.
  */
 #include "gambyre.h"
 
@@ -84,7 +84,7 @@ static void version(void) {
 /* Every verdict has a text of its own, and every other number the same one, 9 among them. */
 static void texts(void) {
     const char *other = gambyre_verdict_text((gambyre_verdict)UINT32_MAX);
-    for (uint32_t a = GAMBYRE_ACCEPTED; a <= GAMBYRE_NOT_PLAN_TEXT; a++) {
+    for (uint32_t a = GAMBYRE_ACCEPTED; a <= GAMBYRE_RECORD_LENGTH; a++) {
         if (a == 9) continue;
         const char *text = gambyre_verdict_text((gambyre_verdict)a);
         same("a verdict has a text", strcmp(text, other) != 0, 1);
@@ -93,7 +93,7 @@ static void texts(void) {
         }
     }
     same("9 is no verdict", strcmp(gambyre_verdict_text((gambyre_verdict)9), other), 0);
-    same("17 is no verdict", strcmp(gambyre_verdict_text((gambyre_verdict)17), other), 0);
+    same("18 is no verdict", strcmp(gambyre_verdict_text((gambyre_verdict)18), other), 0);
     same("256 is no verdict", strcmp(gambyre_verdict_text((gambyre_verdict)256), other), 0);
     same("accepted", strcmp(gambyre_verdict_text(GAMBYRE_ACCEPTED), "accepted"), 0);
 }
@@ -295,6 +295,36 @@ static void choices(void) {
     }
 }
 
+static void cover(const uint16_t *list, size_t slots, uint16_t flow, size_t l, gambyre_cover_reply expected) {
+    const gambyre_cover_reply reply = gambyre_cover(list, slots, flow, l);
+    same("cover", reply.verdict, expected.verdict);
+    same("the least services", reply.least.services, expected.least.services);
+    same("their place", reply.least.place, expected.least.place);
+    same("the most services", reply.most.services, expected.most.services);
+    same("their place", reply.most.place, expected.most.place);
+}
+
+/* Counted by hand, and at the limits. */
+static void covers(void) {
+    enum { IDLE = GAMBYRE_IDLE_SLOT, MOST = GAMBYRE_MOST_RECORD };
+    static uint16_t longest[MOST + 1];
+    const uint16_t record[10] = {0, 1, 0, 0, IDLE, 0, 1, 1, 0, IDLE};
+    const gambyre_cover_reply board_1 = {GAMBYRE_ACCEPTED, {0, 2}, {2, 5}};
+    const gambyre_cover_reply idle = {GAMBYRE_ACCEPTED, {0, 0}, {1, 2}};
+    const gambyre_cover_reply none = {GAMBYRE_ACCEPTED, {0, 0}, {0, 0}};
+    const gambyre_cover_reply refused_17 = {GAMBYRE_RECORD_LENGTH, {0, 0}, {0, 0}};
+    const gambyre_cover_reply all = {GAMBYRE_ACCEPTED, {MOST, 0}, {MOST, 0}};
+    cover(record, 10, 1, 3, board_1);
+    cover(record, 10, IDLE, 3, idle);
+    cover(record, 10, 2, 3, none);
+    cover(record, 10, 0, 0, none);
+    cover(record, 10, 0, 11, refused_17);
+    cover(record, 10, 0, SIZE_MAX, refused_17);
+    cover(longest, MOST, 0, MOST, all);
+    cover(longest, MOST + 1, 0, MOST, refused_17);
+    cover(longest, MOST + 1, 0, 0, refused_17);
+}
+
 /* Each list of each call. */
 static void empty_lists(void) {
     const gambyre_multiplexer rested = {{0}};
@@ -319,6 +349,8 @@ static void empty_lists(void) {
     same("read_text, no rates", gambyre_read_text(1, 1, (const uint8_t *)"1", 1, NULL, 0), GAMBYRE_LIST_LENGTH);
     same("read_text, no list", gambyre_read_text(1, 1, NULL, 0, NULL, 0), GAMBYRE_LIST_LENGTH);
     same("choose, no rates", gambyre_choose(rested, NULL, 0, 1, 0).kind, GAMBYRE_NO_FLOW);
+    same("cover, no record", gambyre_cover(NULL, 0, 0, 0).verdict, GAMBYRE_ACCEPTED);
+    same("cover of a slot, no record", gambyre_cover(NULL, 0, 0, 1).verdict, GAMBYRE_RECORD_LENGTH);
     same("what refused calls write", list[0], 9);
 }
 
@@ -338,6 +370,7 @@ int main(void) {
     bytes_of_waits();
     desk_views();
     choices();
+    covers();
     empty_lists();
     if (!differing) {
         printf("tests/header.c: the header's numbers are the library's\n");

@@ -6,6 +6,7 @@
 #![allow(dead_code, unused_imports)] // each program that takes this module in uses its own part of it
 
 pub mod by_value;
+pub mod meter;
 pub mod multiplexer;
 pub mod plan;
 pub mod planfile;
@@ -13,10 +14,11 @@ pub mod plantext;
 pub mod printout;
 pub mod refusal;
 pub mod regulator;
+pub mod smoothness;
 pub mod switch;
 
 /// The version of the interface: major × 10,000 + minor × 100 + patch.
-pub const VERSION: u32 = 1_300;
+pub const VERSION: u32 = 1_400;
 
 pub use multiplexer::Multiplexer;
 pub use plan::Plan;

@@ -1,6 +1,7 @@
 //! The public operations in the terms of the header, and the model put into these terms.
 #![allow(dead_code)] // each program that takes this module in uses its own part of it
 
+use crate::model::meter::{self, Cover, Stretch};
 use crate::model::plan::{self, MOST_PORTS};
 use crate::model::refusal::number;
 use crate::model::{by_value, planfile, plantext, regulator, Multiplexer, Plan, Port, Switch, VERSION};
@@ -45,6 +46,14 @@ pub struct Choice {
     pub flow: usize,
 }
 
+#[derive(Clone, Copy, Debug, PartialEq, Eq)]
+#[repr(C)]
+pub struct CoverReply {
+    pub verdict: u32,
+    pub least: Stretch,
+    pub most: Stretch,
+}
+
 /// One implementation of the switch. States are lent here, and copied where the header takes them by value.
 pub trait Operations {
     fn version() -> u32;
@@ -62,6 +71,7 @@ pub trait Operations {
     fn arrive(state: &Switch, store: &mut [u32], input: usize, output: usize, cell: u32) -> Reply;
     fn load(state: &Switch, ports: usize, frame: u32, rates: &[u16]) -> Reply;
     fn step(state: &Switch, store: &[u32]) -> SlotReply;
+    fn cover(record: &[u16], flow: u16, length: usize) -> CoverReply;
 }
 
 pub struct Model;
@@ -145,6 +155,13 @@ impl Operations for Model {
             reply.sends = answer.sends.map(PortReply::from);
         }
         reply
+    }
+
+    fn cover(record: &[u16], flow: u16, length: usize) -> CoverReply {
+        let outcome = meter::cover(record, flow, length);
+        let verdict = number(&outcome);
+        let Cover { least, most } = outcome.unwrap_or(Cover::ZERO);
+        CoverReply { verdict, least, most }
     }
 }
 

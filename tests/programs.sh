@@ -1,8 +1,21 @@
-# What the tests of the programs share. tests/frame.sh and tests/sheet.sh read it in.
+# What the tests of the programs share. tests/frame.sh, tests/smoothness.sh and tests/sheet.sh read it in; the program that a
+# script tests is in `program`.
 
 fail() {
     echo "tests/${0##*/}: $*" >&2
     exit 1
+}
+
+# same NAME COMMAND..: of standard input the program prints what the command prints, and says nothing on standard error. The
+# dumps tell any two outputs apart.
+same() {
+    local name=$1 printed expected
+    shift
+    printed=$("$program" 2>&1 | od -A d -v -c) || fail "$name: the program failed"
+    expected=$("$@" | od -A d -v -c) || fail "$name: there is no expected printout"
+    [ "$printed" = "$expected" ] && return
+    comm -3 --nocheck-order <(echo "$printed") <(echo "$expected") 2>&1 | head -n 6 >&2 || true
+    fail "$name: not the expected printout; above are places where it differs, further right as expected"
 }
 
 # says NAME WHAT TEXT: the text, which the program wrote on standard error, is one line that names what failed, and says why.

@@ -1,6 +1,7 @@
 //! The model and the comparison put to the test by themselves, without the proved library:
 //! the cases of the scope on the model, the rules of texts kept and broken, the model by value against the
-//! model in place, and the checks of choices and of shares against the words of the scope.
+//! model in place, the model's meter against a count of every stretch, and the checks of choices, of services in a
+//! stretch and of shares against the words of the scope.
 //!
 //!     rustc --edition 2021 -O --test tests/selftest.rs -o target/selftest && target/selftest
 
@@ -10,15 +11,19 @@ mod model;
 mod operations;
 
 use check::choices::judge;
+use check::covers::edges::EDGES;
 use check::random::Random;
+use check::recorded;
 use check::share::Share;
 use check::tally::{Tally, Ties};
 use check::texts::faults::FAULTS;
 use check::texts::SOUND;
-use check::{inputs, runs, states};
+use check::{covers, inputs, runs, states};
+use model::meter::{Stretch, IDLE_SLOT};
 use model::printout::printout;
+use model::smoothness::smoothness;
 use model::Multiplexer;
-use operations::{Model, Operations};
+use operations::{CoverReply, Model, Operations};
 use std::collections::BTreeSet;
 
 #[test]
@@ -31,6 +36,19 @@ fn printout_of_the_scope() {
     assert_eq!(printout(&cases::C10_FILE), cases::C10_TEXT);
     assert_eq!(printout(&[]), "refused 15\n");
     assert_eq!(printout(b"LSP\x01\0\x01\x02\0\x01\0"), "slot in0 out0\n0 0 0\n1 - -\n");
+}
+
+/// A plan of two flows, from board 0: 1 of 3 slots to head 0, and 2 of them to head 1. Then one of T = 1.
+#[test]
+fn smoothness_by_hand() {
+    let header = "out in rate slots least promised most promised\n";
+    assert_eq!(
+        smoothness(b"LSP\x01\0\x02\x03\0\x01\0\x02\0\0\0\0\0"),
+        format!("{header}0 0 1 1 0 0 1 1\n0 0 1 3 1 0 1 2\n1 0 2 1 0 0 1 1\n1 0 2 3 2 1 2 3\n")
+    );
+    assert_eq!(smoothness(b"LSP\x01\0\x01\x01\0\x01\0"), format!("{header}0 0 1 1 1 1 1 1\n"));
+    assert_eq!(smoothness(b"LSP\x01\0\x01\x01\0\0\0"), header);
+    assert_eq!(smoothness(&[]), "refused 15\n");
 }
 
 /// The verdict on a text of two ports and ten slots, and the list that was lent with nines.
@@ -86,6 +104,12 @@ fn what_was_never_reached_is_named() {
     let missing: BTreeSet<String> = Tally::default().report().into_iter().collect();
     assert!(missing.contains("16 text breaks a rule"));
     assert!(FAULTS.iter().all(|(fault, _, _)| missing.contains(*fault)));
+    assert!(EDGES.iter().all(|(edge, _)| missing.contains(*edge)));
+    assert_eq!(
+        EDGES.iter().map(|edge| edge.0).collect::<BTreeSet<&str>>().len(),
+        EDGES.len(),
+        "one name for two edges"
+    );
     let names: BTreeSet<&str> = FAULTS.iter().map(|fault| fault.0).chain(SOUND.iter().map(|sound| sound.0)).collect();
     assert_eq!(names.len(), FAULTS.len() + SOUND.len(), "one name for two kinds of text");
 }
@@ -100,6 +124,7 @@ fn by_value_and_in_place_agree() {
     }
     let mut random = Random::new(1);
     inputs::compare::<Model>(100, &mut random, &mut tally).unwrap();
+    covers::compare::<Model>(100, &mut random, &mut tally).unwrap();
     states::compare::<Model>(50, &mut random, &mut tally).unwrap();
     assert_eq!(tally.report(), Vec::<String>::new());
 }
@@ -125,6 +150,64 @@ fn wrong_choices_are_found() {
     wrong(2, [1, 0, 1], Some(3), "not eligible");
     for (slot, served, chosen) in [(0, [0, 0, 0], 2), (1, [0, 0, 1], 0), (2, [1, 0, 1], 2), (3, [1, 0, 2], 1)] {
         assert_eq!(judged(slot, served, Some(chosen)), Ok(()));
+    }
+}
+
+/// Every record of up to six slots in which three numbers stand, for each of them and for one that doesn't.
+#[test]
+fn every_stretch_is_counted() {
+    const NUMBERS: [u16; 3] = [0, 1, IDLE_SLOT];
+    for slots in 0..=6 {
+        for which in 0..3_usize.pow(slots) {
+            let record: Vec<u16> = (0..slots).map(|slot| NUMBERS[which / 3_usize.pow(slot) % 3]).collect();
+            for flow in [0, 1, IDLE_SLOT, 2] {
+                for length in 0..=record.len() + 1 {
+                    let found = Model::cover(&record, flow, length);
+                    assert_eq!(found, counted(&record, flow, length), "record {record:?} flow {flow} l {length}");
+                }
+            }
+        }
+    }
+}
+
+/// One stretch after the other, slot by slot.
+fn counted(record: &[u16], flow: u16, length: usize) -> CoverReply {
+    let none = Stretch { services: 0, place: 0 };
+    if length > record.len() {
+        return CoverReply { verdict: 17, least: none, most: none };
+    }
+    let mut found = CoverReply { verdict: 0, least: Stretch { services: usize::MAX, place: 0 }, most: none };
+    for place in 0..=record.len() - length {
+        let mut services = 0;
+        for slot in place..place + length {
+            if record[slot] == flow {
+                services += 1;
+            }
+        }
+        if services < found.least.services {
+            found.least = Stretch { services, place };
+        }
+        if services > found.most.services {
+            found.most = Stretch { services, place };
+        }
+    }
+    found
+}
+
+/// Rate 3 of 9: in 9 slots 2 to 4 services are promised, in 6 slots 1 to 3, and in 1 slot 0 or 1.
+#[test]
+fn services_that_break_the_promise_are_found() {
+    let judged = |length: usize, least: usize, most: usize| {
+        let stretch = |services| Stretch { services, place: 0 };
+        let reply = CoverReply { verdict: 0, least: stretch(least), most: stretch(most) };
+        recorded::judge(&reply, 3, 9, length, &mut Tally::default())
+    };
+    for (length, least, most) in [(9, 2, 4), (6, 1, 3), (1, 0, 1)] {
+        assert_eq!(judged(length, least, most), Ok(()));
+        assert!(judged(length, least, most + 1).expect_err("one service more").ends_with("at most"));
+        if least > 0 {
+            assert!(judged(length, least - 1, most).expect_err("one service less").ends_with("at least"));
+        }
     }
 }
 

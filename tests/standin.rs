@@ -7,7 +7,7 @@ mod model;
 mod operations;
 
 use model::{Multiplexer, Switch};
-use operations::{Choice, Model, Operations, Reading, Reply, SlotReply};
+use operations::{Choice, CoverReply, Model, Operations, Reading, Reply, SlotReply};
 use std::slice::{from_raw_parts, from_raw_parts_mut};
 use std::sync::Once;
 
@@ -144,4 +144,9 @@ unsafe extern "C" fn gambyre_load(s: Switch, n: usize, t: u32, rates: *const u16
 unsafe extern "C" fn gambyre_step(s: Switch, store: *const u32, store_len: usize) -> SlotReply {
     say_so();
     Model::step(&s, from_raw_parts(store, store_len))
+}
+
+#[no_mangle]
+unsafe extern "C" fn gambyre_cover(record: *const u16, record_len: usize, flow: u16, l: usize) -> CoverReply {
+    Model::cover(from_raw_parts(record, record_len), flow, l)
 }

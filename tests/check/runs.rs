@@ -4,12 +4,13 @@ use super::choices::judge_slot;
 use super::guarded::Guarded;
 use super::promises::Promises;
 use super::random::Random;
+use super::recorded::Recorded;
 use super::same::{same_list, same_ports, same_state, same_verdict};
 use super::script::Script;
 use super::tally::{Branch, Tally};
 use crate::model::refusal::number;
 use crate::model::{Port, Refusal, SlotAnswer, Switch};
-use crate::operations::Operations;
+use crate::operations::{Operations, SlotReply};
 use std::fmt;
 use std::marker::PhantomData;
 
@@ -50,6 +51,7 @@ pub struct Run<S> {
     subject: Side,
     model: Side,
     promises: Promises,
+    recorded: Recorded,
     implementation: PhantomData<S>,
 }
 
@@ -85,7 +87,7 @@ fn run_script<S: Operations>(
             script.answered(&answer);
         }
     }
-    run.end()
+    run.end(tally)
 }
 
 /// The first call that shows a difference, and the difference; the end of the run counts as a call.
@@ -100,7 +102,7 @@ fn replay<S: Operations>(start: &Start, calls: &[Call]) -> Option<(usize, String
             return Some((place + 1, what));
         }
     }
-    run.end().err().map(|what| (calls.len(), what))
+    run.end(&mut tally).err().map(|what| (calls.len(), what))
 }
 
 /// The shortest failing prefix, then whatever else can go while the list still fails.
@@ -139,7 +141,8 @@ impl<S: Operations> Run<S> {
         same_verdict(reply.verdict, number(&outcome))?;
         model.state = outcome.map_err(|refusal| format!("the start is refused {}", refusal as u32))?;
         let promises = Promises::new(&model.state.running);
-        let run = Run { subject, model, promises, implementation: PhantomData };
+        let recorded = Recorded::new(*store_seed);
+        let run = Run { subject, model, promises, recorded, implementation: PhantomData };
         run.same_sides()?;
         Ok(run)
     }
@@ -156,7 +159,8 @@ impl<S: Operations> Run<S> {
         }
     }
 
-    fn end(&self) -> Result<(), String> {
+    fn end(&mut self, tally: &mut Tally) -> Result<(), String> {
+        self.recorded.end::<S>(tally)?;
         self.promises.end(&self.subject.state, self.subject.store.list())
     }
 
@@ -231,6 +235,7 @@ impl<S: Operations> Run<S> {
             }
         }
         let before = (tally.slots % CHOICES_LOOK == 0).then_some(self.subject.state);
+        let slot = self.subject.state.slot;
         self.subject.state = reply.state;
         self.compare(reply.verdict, &outcome, tally)?;
         let answer = outcome.unwrap_or(SlotAnswer::IDLE);
@@ -247,11 +252,23 @@ impl<S: Operations> Run<S> {
             tally.branch(Branch::FrameEnd);
         }
         self.tally_ports(&answer, tally);
-        if let Some(before) = before {
-            judge_slot(&before, &reply, &mut tally.slot_ties)?;
-        }
-        self.promises.step(&reply, self.subject.store.list(), tally)?;
+        self.judge_step(slot, before.as_ref(), &reply, tally)?;
         Ok(Some(answer))
+    }
+
+    /// What the subject answered in an accepted step, by itself; now and then with the state before it.
+    fn judge_step(
+        &mut self,
+        slot: u32,
+        before: Option<&Switch>,
+        reply: &SlotReply,
+        tally: &mut Tally,
+    ) -> Result<(), String> {
+        if let Some(before) = before {
+            judge_slot(before, reply, &mut tally.slot_ties)?;
+        }
+        self.promises.step(reply, self.subject.store.list(), tally)?;
+        self.recorded.step::<S>(slot, reply, tally)
     }
 
     fn tally_ports(&self, answer: &SlotAnswer, tally: &mut Tally) {

@@ -1,12 +1,13 @@
 //! What a comparison has seen.
 
+use super::covers::edges::EDGES;
 use super::texts::faults::FAULTS;
 use super::texts::SOUND;
 use crate::model::Port;
 use std::collections::BTreeMap;
 
 /// The verdicts by number; no call gives 9.
-pub const VERDICTS: [(usize, &str); 16] = [
+pub const VERDICTS: [(usize, &str); 17] = [
     (0, "accepted"),
     (1, "N outside 1 to 16"),
     (2, "T outside 1 to 4,096"),
@@ -23,6 +24,7 @@ pub const VERDICTS: [(usize, &str); 16] = [
     (14, "mark or version"),
     (15, "file length"),
     (16, "text breaks a rule"),
+    (17, "record shorter than l, or above 65,535"),
 ];
 
 /// A way through the slot or an edge of a structure that a run has to reach.
@@ -45,9 +47,15 @@ pub enum Branch {
     ReplacedAfterSlots,
     FedSinceStart,
     FedStretch,
+    RecordOfWholeFrames,
+    RecordInMidFrame,
+    RecordOfSeveralFrames,
+    RecordWithIdleSlots,
+    AsManyAsPromised,
+    AsFewAsPromised,
 }
 
-const BRANCHES: [&str; 17] = [
+const BRANCHES: [&str; 23] = [
     "board idle",
     "board empty",
     "board moved",
@@ -65,6 +73,12 @@ const BRANCHES: [&str; 17] = [
     "plan replaced after slots in which it waited",
     "lower share checked, fed since the start",
     "lower share checked, fed in the stretch",
+    "head's record ends with a frame",
+    "head's record ends in mid-frame",
+    "head's record is longer than two frames",
+    "head's record has idle slots",
+    "as many services as promised, l above 1",
+    "as few services as promised, above 0",
 ];
 
 /// Two eligible flows with one deadline, one of them chosen.
@@ -99,6 +113,9 @@ pub struct Tally {
     pub states: u64,
     pub inputs: u64,
     pub texts: u64,
+    pub covers: u64,
+    /// Those of them that were of a head's record in a run.
+    pub recorded: u64,
     /// Second loads on hand-made states that came out as they do without the first.
     pub second_loads: u64,
     verdicts: [u64; VERDICTS[VERDICTS.len() - 1].0 + 1],
@@ -111,6 +128,8 @@ pub struct Tally {
     clauses: BTreeMap<&'static str, [u64; 2]>,
     /// How often a text of each name in `FAULTS` and `SOUND` got its verdict.
     named_texts: BTreeMap<&'static str, u64>,
+    /// How often a record of each name in `EDGES` got its answer.
+    edges: BTreeMap<&'static str, u64>,
     /// How often `waits` held each byte of `WAITS`, and last any other one: in states that hold, and in broken ones.
     waits: [[u64; 2]; WAITS.len() + 1],
 }
@@ -146,9 +165,26 @@ impl Tally {
         *self.named_texts.entry(name).or_default() += 1;
     }
 
+    pub fn edge(&mut self, name: &'static str) {
+        *self.edges.entry(name).or_default() += 1;
+    }
+
     pub fn waits(&mut self, byte: u8, broken: bool) {
         let place = WAITS.iter().position(|&named| named == byte).unwrap_or(WAITS.len());
         self.waits[place][usize::from(broken)] += 1;
+    }
+
+    /// Texts and records that were made for an answer.
+    fn named(&self) -> [(&'static str, Vec<(String, u64)>); 3] {
+        let of = |counts: &BTreeMap<&'static str, u64>, name: &str| counts.get(name).copied().unwrap_or(0);
+        let faults = FAULTS.iter().map(|(name, _, _)| (name.to_string(), of(&self.named_texts, name)));
+        let sound = SOUND.iter().map(|(name, verdict, _)| (format!("{name}: {verdict}"), of(&self.named_texts, name)));
+        let edges = EDGES.iter().map(|(name, _)| (name.to_string(), of(&self.edges, name)));
+        [
+            ("texts with one fault, each refused 16", faults.collect()),
+            ("texts without a fault, each with its verdict", sound.collect()),
+            ("records at the edges of the meter, each with its answer", edges.collect()),
+        ]
     }
 
     /// Prints all counts; answers what was never hit.
@@ -173,14 +209,9 @@ impl Tally {
             line(format!("{name}, in a choice"), self.ties.0[tie]);
             line(format!("{name}, in a slot"), self.slot_ties.0[tie]);
         }
-        let named = |name: &str| self.named_texts.get(name).copied().unwrap_or(0);
-        println!("texts with one fault, each refused 16");
-        for (name, _, _) in FAULTS {
-            line(name.to_string(), named(name));
-        }
-        println!("texts without a fault, each with its verdict");
-        for (name, verdict, _) in SOUND {
-            line(format!("{name}: {verdict}"), named(name));
+        for (heading, counts) in self.named() {
+            println!("{heading}");
+            counts.into_iter().for_each(|(name, count)| line(name, count));
         }
         println!("clauses of 12 and 13, and loads, in hand-made states");
         for (name, [within, past]) in &self.clauses {

@@ -1,4 +1,4 @@
-//! What the program prints for a plan file.
+//! What the program `frame` prints for a plan file.
 
 use super::multiplexer::Multiplexer;
 use super::plan::{Plan, MOST_PORTS};

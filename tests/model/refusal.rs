@@ -19,6 +19,7 @@ pub enum Refusal {
     MarkOrVersion,
     FileLength,
     NotPlanText,
+    RecordLength,
 }
 
 /// The number of a call's outcome: 0 is accepted.

@@ -1,6 +1,7 @@
 // The limits of the switch, tried from both sides: case C11 of the scope, then the small example of each row of its
-// table "What is sent back" beside a neighbour that is accepted, then texts beside those that keep to the rules. The example of
-// row 9, a load while a plan waits, is accepted since request L5.
+// table "What is sent back" beside a neighbour that is accepted, then texts beside those that keep to the rules, and records
+// beside those that are measured. The example of row 9, a load while a plan waits, is accepted since request L5.
+use crate::meters::record;
 use crate::plans::file;
 use crate::plans::frame;
 use crate::plans::plan;
@@ -14,6 +15,7 @@ use crate::switches::output;
 use crate::switches::places;
 use crate::switches::slot;
 
+mod meters;
 mod plans;
 mod report;
 mod switches;
@@ -77,10 +79,20 @@ fn text_rows() {
     text(b"empty text", b"");
 }
 
+// Number 17 of the request for the meter.
+fn record_rows() {
+    record(&[0; 0], 0);
+    record(&[0; 3], 3);
+    record(&[0; 3], 4);
+    record(&[0; 65535], 1);
+    record(&[0; 65536], 1);
+}
+
 fn main() {
     case_11();
     plan_rows();
     switch_rows();
     file_rows();
     text_rows();
+    record_rows();
 }

@@ -8,6 +8,7 @@ use lib.ListN.{set, replicate}
 use Rattle.refusal.specs.Number.{verdictNumberOf}
 use Rattle.plan.specs.Range.{mostPorts}
 use Rattle.planfile.specs.declared.Reading.{Reading}
+use Rattle.meter.specs.declared.Measured.{Measured}
 use Rattle.multiplexer.specs.declared.Choice.{Choice}
 use Rattle.multiplexer.specs.declared.Choice.the-variants.{Idle, Flow}
 use Rattle.fabric.specs.Answer.{kindOf, answerOf}
@@ -21,6 +22,7 @@ use Rattle.records.specs.declared.ChoiceRecord.{ChoiceRecord}
 use Rattle.records.specs.declared.ReplyRecord.{ReplyRecord}
 use Rattle.records.specs.declared.SlotRecord.{SlotRecord}
 use Rattle.records.specs.declared.ReadingRecord.{ReadingRecord}
+use Rattle.records.specs.declared.CoverRecord.{CoverRecord}
 
 -- "idle; empty (served, nothing to move), with the other port; moved, with the other port and the cell": the other port,
 -- 0 where an answer has none
@@ -77,3 +79,6 @@ slotRecord r =
 
 abbrev pub readingRecord : Reading → ReadingRecord
 readingRecord r = record { verdict = verdictNumberOf (r .verdict); plan = r .plan }
+
+abbrev pub coverRecord : Measured → CoverRecord
+coverRecord r = record { verdict = verdictNumberOf (r .verdict); least = r .least; most = r .most }

@@ -3,12 +3,14 @@
 ghost use mathlib.Core.Path.{_≡_};
 ghost use Rattle.refusal.specs.Number.{verdictNumberOf};
 ghost use Rattle.fabric.specs.Answer.{kindOf};
-ghost use Rattle.records.specs.Records.{otherOf, cellOf, answerRecord, portRecords, choiceRecord, choiceIn, replyRecord, slotRecord, readingRecord};
+ghost use Rattle.records.specs.Records.{otherOf, cellOf, answerRecord, portRecords, choiceRecord, choiceIn, replyRecord, slotRecord, readingRecord, coverRecord};
 use crossbar::state::Reply;
 use crossbar::state::SlotReply;
 use crossbar::state::Switch;
 use fabric::flow::Answer;
 use fabric::flow::Port;
+use meter::Measured;
+use meter::Stretch;
 use multiplexer::Choice;
 use plan::Plan;
 use plan::range::MOST_PORTS;
@@ -60,6 +62,13 @@ pub struct SlotRecord {
 pub struct ReadingRecord {
     pub verdict: u32,
     pub plan: Plan,
+}
+
+#[repr(C)]
+pub struct CoverRecord {
+    pub verdict: u32,
+    pub least: Stretch,
+    pub most: Stretch,
 }
 
 pub fn verdict_number(verdict: Verdict) -> u32
@@ -182,5 +191,18 @@ pub fn reading_record(reading: Reading) -> ReadingRecord
     ReadingRecord {
         verdict: verdict_number(verdict),
         plan,
+    }
+}
+
+pub fn cover_record(measured: Measured) -> CoverRecord
+    ensures { λ r. ⌜ r ≡ coverRecord measured ⌝ }
+{
+    let verdict = measured.verdict;
+    let least = measured.least;
+    let most = measured.most;
+    CoverRecord {
+        verdict: verdict_number(verdict),
+        least,
+        most,
     }
 }

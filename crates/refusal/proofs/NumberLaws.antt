@@ -5,7 +5,7 @@ use mathlib.Core.List.{List, [], _∷_}
 use native.Mathlib.Omega.{arith}
 use lib.ListN.{getD}
 use Rattle.refusal.specs.Number.{retired, verdictNumberOf}
-use Rattle.refusal.specs.declared.Refusal.the-variants.{PortsOutOfRange, FrameOutOfRange, ListLength, RowAboveFrame, ColumnAboveFrame, DepthOutOfRange, StoreLength, PlanMismatch, NoSuchPort, QueueFull, StateInvalid, CrosspointFull, NotPlanFile, FileLength, NotPlanText}
+use Rattle.refusal.specs.declared.Refusal.the-variants.{PortsOutOfRange, FrameOutOfRange, ListLength, RowAboveFrame, ColumnAboveFrame, DepthOutOfRange, StoreLength, PlanMismatch, NoSuchPort, QueueFull, StateInvalid, CrosspointFull, NotPlanFile, FileLength, NotPlanText, RecordLength}
 use Rattle.refusal.specs.declared.Verdict.{Verdict}
 use Rattle.refusal.specs.declared.Verdict.the-variants.{Accepted, Refused}
 
@@ -14,7 +14,7 @@ abbrev table : List Verdict
 table =
     Accepted ∷ Refused PortsOutOfRange ∷ Refused FrameOutOfRange ∷ Refused ListLength ∷ Refused RowAboveFrame ∷ Refused ColumnAboveFrame
     ∷ Refused DepthOutOfRange ∷ Refused StoreLength ∷ Refused PlanMismatch ∷ Accepted ∷ Refused NoSuchPort ∷ Refused QueueFull
-    ∷ Refused StateInvalid ∷ Refused CrosspointFull ∷ Refused NotPlanFile ∷ Refused FileLength ∷ Refused NotPlanText ∷ []
+    ∷ Refused StateInvalid ∷ Refused CrosspointFull ∷ Refused NotPlanFile ∷ Refused FileLength ∷ Refused NotPlanText ∷ Refused RecordLength ∷ []
 
 in-table : (v : Verdict) → getD table (verdictNumberOf v) Accepted ≡ v
 in-table Accepted = refl
@@ -33,6 +33,7 @@ in-table (Refused CrosspointFull) = refl
 in-table (Refused NotPlanFile) = refl
 in-table (Refused FileLength) = refl
 in-table (Refused NotPlanText) = refl
+in-table (Refused RecordLength) = refl
 
 by-number : (v : Verdict) {k : ℕ} → verdictNumberOf v ≡ k → v ≡ getD table k Accepted
 by-number v e = sym (in-table v) ∙ ap (λ (k : ℕ). getD table k Accepted) e

@@ -2,7 +2,7 @@
 -- this file and the function `number` have these numbers; all others use the names.
 use Prim.Native.Nat.{ℕ}
 use Rattle.refusal.specs.declared.Refusal.{Refusal}
-use Rattle.refusal.specs.declared.Refusal.the-variants.{PortsOutOfRange, FrameOutOfRange, ListLength, RowAboveFrame, ColumnAboveFrame, DepthOutOfRange, StoreLength, PlanMismatch, NoSuchPort, QueueFull, StateInvalid, CrosspointFull, NotPlanFile, FileLength, NotPlanText}
+use Rattle.refusal.specs.declared.Refusal.the-variants.{PortsOutOfRange, FrameOutOfRange, ListLength, RowAboveFrame, ColumnAboveFrame, DepthOutOfRange, StoreLength, PlanMismatch, NoSuchPort, QueueFull, StateInvalid, CrosspointFull, NotPlanFile, FileLength, NotPlanText, RecordLength}
 use Rattle.refusal.specs.declared.Verdict.{Verdict}
 use Rattle.refusal.specs.declared.Verdict.the-variants.{Accepted, Refused}
 
@@ -22,6 +22,7 @@ numberOf CrosspointFull = 13
 numberOf NotPlanFile = 14
 numberOf FileLength = 15
 numberOf NotPlanText = 16
+numberOf RecordLength = 17
 
 -- "Number 9 is then never given" (L5): a load while a plan waits had it until then. No refusal gets it again.
 abbrev pub retired : ℕ

@@ -35,6 +35,8 @@ pub enum Refusal {
     FileLength,
     // the text isn't N records of N fields, each a number of 16 bits in one to five digits
     NotPlanText,
+    // the record has fewer slots than the stretch, or more than 65,535
+    RecordLength,
 }
 
 // What a call answers: it was done, or it was refused for one reason.
@@ -64,6 +66,7 @@ impl Refusal {
             Refusal::NotPlanFile => 14,
             Refusal::FileLength => 15,
             Refusal::NotPlanText => 16,
+            Refusal::RecordLength => 17,
         }
     }
 }

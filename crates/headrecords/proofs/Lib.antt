@@ -1,0 +1,3 @@
+pub mod HeadLaws
+pub mod TurnLaws
+pub mod Theorem

@@ -1,0 +1,10 @@
+pub mod SumLaws
+pub mod CoverLaws
+pub mod SearchLaws
+pub mod AnswerLaws
+pub mod MeasureLaws
+pub mod RecordLaws
+pub mod PaceLaws
+pub mod BoundLaws
+pub mod Theorem
+pub mod Examples

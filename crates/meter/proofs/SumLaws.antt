@@ -1,0 +1,35 @@
+-- Sums over the numbers below n that are taken from another place on.
+use Prim.Native.Nat.{ℕ, zero, suc, _+_, _<_, _≤_}
+use mathlib.Core.Path.{_≡_, ap}
+use mathlib.Core.Logic.{⊎-elim}
+use native.Mathlib.Nat.{add-zero, add-suc}
+use native.Mathlib.Omega.{arith}
+use Rattle.plan.specs.Below.{sumBelow}
+use Rattle.plan.proofs.BelowLaws.{lt-or-le}
+
+module _ (x : ℕ → ℕ) where
+  -- one place further on: one term enters and one leaves
+  pub sum-slides : (t l : ℕ) → sumBelow (λ u. x (suc t + u)) l + x t ≡ sumBelow (λ u. x (t + u)) l + x (t + l)
+  sum-slides t zero = omega (arith, ap x (add-zero t))
+  sum-slides t (suc l) = let same : suc t + l ≡ t + suc l = omega arith in omega (arith, sum-slides t l, ap x same)
+
+  pub sum-split : (t l : ℕ) → sumBelow x t + sumBelow (λ u. x (t + u)) l ≡ sumBelow x (t + l)
+  sum-split t zero = rw (add-zero t) (omega arith)
+  sum-split t (suc l) = rw (add-suc t l) (omega (arith, sum-split t l))
+
+  pub sum-first : (n : ℕ) → sumBelow x (suc n) ≡ x 0 + sumBelow (λ u. x (suc u)) n
+  sum-first zero = omega arith
+  sum-first (suc n) = omega (arith, sum-first n)
+
+  pub sum-grows : (m n : ℕ) → m ≤ n → sumBelow x m ≤ sumBelow x n
+  sum-grows m zero l = let e : m ≡ 0 = omega arith in rw e (omega arith)
+  sum-grows m (suc n) l =
+      ⊎-elim
+      (λ (b : m < suc n). omega (arith, sum-grows m n (omega arith)))
+      (λ (b : suc n ≤ m). let e : m ≡ suc n = omega arith in rw e (omega arith))
+      (lt-or-le m (suc n))
+
+-- terms of at most 1
+pub sum-ones : (x : ℕ → ℕ) (n : ℕ) → ((k : ℕ) → x k ≤ 1) → sumBelow x n ≤ n
+sum-ones x zero h = omega arith
+sum-ones x (suc n) h = omega (arith, sum-ones x n h, h n)

@@ -1,0 +1,5 @@
+pub mod Cover
+pub mod Answer
+pub mod Search
+pub mod Record
+pub mod Bound
