@@ -1,7 +1,7 @@
 -- A text for each number below n, one after the other: written piece by piece, and how long it can be.
 use Prim.Native.Nat.{ℕ, zero, suc, _+_, _*_, _<_, _≤_}
-use mathlib.Core.List.{List, _++_}
-use mathlib.Core.Path.{_≡_, refl}
+use mathlib.Core.List.{List, [], _++_, append-nil}
+use mathlib.Core.Path.{_≡_, refl, ap, sym, _∙_}
 use mathlib.Core.Logic.{⊎-elim}
 use native.Mathlib.Numerals.{add-one}
 use native.Mathlib.Omega.{arith}
@@ -9,7 +9,7 @@ use lib.ListN.{length, length-append}
 use Rattle.plan.proofs.BelowLaws.{below-or-last}
 use Rattle.console.specs.Text.{HasRoom, Written}
 use Rattle.console.specs.TextBelow.{textBelow}
-use Rattle.console.proofs.TextLaws.{nothing-written}
+use Rattle.console.proofs.TextLaws.{nothing-written, written-as, written-on}
 
 module _ (text : ℕ → List ℕ) where
   -- before the first one nothing is written
@@ -44,3 +44,12 @@ module _ (text : ℕ → List ℕ) where
   unfolding textBelow
   below-short k zero h = omega arith
   below-short k (suc n) h = omega (arith, below-longer n, below-short k n (λ p l. h p (omega arith)), h n (omega arith))
+
+-- one text more behind those below p: none, where it is empty, and else a line that was written
+module _ (text : ℕ → List ℕ) {before mid : List ℕ} {start at p : ℕ} (w : Written before start (textBelow text p) mid at) where
+  pub below-skip : text p ≡ [] → Written before start (textBelow text (p + 1)) mid at
+  below-skip e =
+      written-as w (sym (append-nil (textBelow text p)) ∙ ap (λ (l : List ℕ). textBelow text p ++ l) (sym e) ∙ below-next text p)
+
+  pub below-step : {after line : List ℕ} {r : ℕ} → text p ≡ line → Written mid at line after r → Written before start (textBelow text (p + 1)) after r
+  below-step e v = written-as (written-on w (written-as v (sym e))) (below-next text p)

@@ -1,12 +1,14 @@
--- Text that is written into a buffer piece by piece, and room for the line of a refusal.
+-- Text that is written into a buffer piece by piece, and room for the line of a refusal and for what may stand in its place.
 use Prim.Native.Nat.{ℕ, _+_, _-_, _≤_}
 use mathlib.Core.List.{List, [], _++_, append-assoc, append-nil}
 use mathlib.Core.Path.{_≡_, refl, ap, sym, subst, _∙_}
 use native.Mathlib.Omega.{arith}
 use lib.ListN.{length, take, drop, length-append, length-drop, drop-of-length-le}
 use lib.Seq.{take-all, take-length, take-append-seam, take-append-add, drop-append-seam, drop-append-add, drop-drop, length-take-le}
+use Rattle.refusal.specs.Chain.{ifAccepted}
 use Rattle.refusal.specs.Number.{verdictNumberOf}
 use Rattle.refusal.specs.declared.Verdict.{Verdict}
+use Rattle.refusal.specs.declared.Verdict.the-variants.{Accepted, Refused}
 use Rattle.console.specs.Text.{HasRoom, Written}
 use Rattle.console.specs.Refused.{refusalLineOf, refusalRoom}
 use Rattle.console.proofs.DigitLaws.{digits-within}
@@ -100,3 +102,8 @@ module _ (buffer text part : List ℕ) (at r : ℕ) (room : HasRoom buffer at te
 pub refusal-short : (v : Verdict) → length (refusalLineOf v) ≤ refusalRoom
 unfolding refusalLineOf
 refusal-short v = simp length-append (omega (arith, digits-within 20 (verdictNumberOf v)))
+
+-- one text where a call was accepted, and another where it was refused
+pub either-short : (k : ℕ) (v : Verdict) (x y : List ℕ) → (v ≡ Accepted → length x ≤ k) → length y ≤ k → length (ifAccepted v x y) ≤ k
+either-short k Accepted x y hx hy = hx refl
+either-short k (Refused r) x y hx hy = hy

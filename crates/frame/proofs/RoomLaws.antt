@@ -1,12 +1,9 @@
 -- How long a printout can be.
 use Prim.Native.Nat.{ℕ, zero, suc, _+_, _*_, _<_, _≤_}
 use mathlib.Core.List.{List, _++_}
-use mathlib.Core.Path.{_≡_, refl}
+use mathlib.Core.Path.{_≡_}
 use native.Mathlib.Omega.{arith}
 use lib.ListN.{length, replicate, length-append}
-use Rattle.refusal.specs.Chain.{ifAccepted}
-use Rattle.refusal.specs.declared.Verdict.{Verdict}
-use Rattle.refusal.specs.declared.Verdict.the-variants.{Accepted, Refused}
 use Rattle.plan.specs.Range.{mostPorts, mostSlots}
 use Rattle.plan.specs.declared.Plan.{Plan}
 use Rattle.planfile.specs.Read.{readOf}
@@ -24,7 +21,7 @@ use Rattle.crossbar.proofs.AnswerLaws.{step-moves-name, step-sends-name}
 use Rattle.console.specs.Text.{decimalOf, HasRoom, Written}
 use Rattle.frame.specs.Printout.{inputName, outputName, namesOf, headerOf, choiceOf, sideChoicesOf, slotLineOf, slotLinesOf, framePrintoutOf, printoutOf, headerRoom, slotLineRoom, printoutRoom, Prints}
 use Rattle.console.proofs.DigitLaws.{digits-below}
-use Rattle.console.proofs.TextLaws.{refusal-short}
+use Rattle.console.proofs.TextLaws.{refusal-short, either-short}
 use Rattle.console.proofs.TextBelowLaws.{below-short}
 
 -- the number of a port
@@ -60,10 +57,6 @@ slot-short s store n slot few l =
       choices-short (r .moves) n (step-moves-name s store),
       choices-short (r .sends) n (step-sends-name s store),
     ))
-
-either-short : (k : ℕ) (v : Verdict) (x y : List ℕ) → (v ≡ Accepted → length x ≤ k) → length y ≤ k → length (ifAccepted v x y) ≤ k
-either-short k Accepted x y hx hy = hx refl
-either-short k (Refused r) x y hx hy = hy
 
 lines-short : (s : Switch) (store : List ℕ) (n slot left : ℕ) → n ≤ mostPorts → slot + left ≤ mostSlots → length (slotLinesOf s store n slot left) ≤ left * slotLineRoom
 unfolding slotLinesOf

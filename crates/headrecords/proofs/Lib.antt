@@ -1,3 +1,4 @@
 pub mod HeadLaws
 pub mod TurnLaws
 pub mod Theorem
+pub mod Undisturbed

@@ -19,6 +19,7 @@ use Rattle.runs.specs.Event.{Event}
 use Rattle.runs.specs.Event.Event.{stepped, arrived, loaded}
 use Rattle.runs.specs.Run.{Run, finalState}
 use Rattle.runs.specs.Flow.{slots}
+use Rattle.runs.specs.Plans.{PutsInWaiting}
 
 -- the entry for a head's answer: the board that it served, with a cell or without
 abbrev pub entryFor : Answer → ℕ
@@ -60,3 +61,11 @@ RecordPromise run =
     → finalState (run .reply .state) before .slot ≡ 0
     → (rates : List ℕ) → OnePlan rates stretch
     → (j : ℕ) → j < run .ports → Recorded (run .ports) (run .frame) rates j stretch
+
+-- Such stretches are there in every run: where no load is accepted, all of it, from the start on, is one.
+abbrev pub NoLoad : List Event → Type 0
+NoLoad [] = Unit {0}
+NoLoad (e ∷ es) = (PutsInWaiting e → ⊥) × NoLoad es
+
+abbrev pub UndisturbedPromise : Run → Type 0
+UndisturbedPromise run = NoLoad (run .events) → (j : ℕ) → j < run .ports → Recorded (run .ports) (run .frame) (run .rates) j (run .events)

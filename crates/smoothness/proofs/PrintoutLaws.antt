@@ -2,8 +2,8 @@
 -- what was read.
 use Prim.Native.Nat.{ℕ, _+_, _*_, _<_, _≤_}
 use mathlib.Core.Bool.{true, false, cond}
-use mathlib.Core.List.{List, [], _++_, append-nil}
-use mathlib.Core.Path.{_≡_, refl, ap, sym, subst, _∙_}
+use mathlib.Core.List.{List, [], _++_}
+use mathlib.Core.Path.{_≡_, refl, sym, subst, _∙_}
 use native.Mathlib.Omega.{arith}
 use lib.ListN.{length, getD, take}
 use borrow.Author.Tests.{lt-ltb, le-ltb}
@@ -25,24 +25,12 @@ use Rattle.meter.specs.Answer.{Covers}
 use Rattle.meter.specs.Search.{coverOf}
 use Rattle.meter.specs.declared.Measured.{Measured}
 use Rattle.meter.proofs.AnswerLaws.{cover-only}
-use Rattle.console.specs.Text.{Written}
 use Rattle.console.specs.Refused.{refusalLineOf}
 use Rattle.console.specs.TextBelow.{textBelow}
-use Rattle.console.proofs.TextLaws.{written-as, written-on}
-use Rattle.console.proofs.TextBelowLaws.{below-next}
 use Rattle.smoothness.specs.Head.{boardLinesOf, ratesLinesOf}
 use Rattle.smoothness.specs.Input.{mostInput}
 use Rattle.smoothness.specs.Printout.{lineOf, stretches, stretchesOf, counts, flowLinesOf, headLinesOf, headerText, printoutOf}
 use Rattle.smoothness.proofs.StretchLaws.{lengthAt}
-
--- A text for each number below n, of which some are empty.
-module _ (text : ℕ → List ℕ) {before mid : List ℕ} {start at p : ℕ} (w : Written before start (textBelow text p) mid at) where
-  pub below-skip : text p ≡ [] → Written before start (textBelow text (p + 1)) mid at
-  below-skip e =
-      written-as w (sym (append-nil (textBelow text p)) ∙ ap (λ (l : List ℕ). textBelow text p ++ l) (sym e) ∙ below-next text p)
-
-  pub below-step : {after line : List ℕ} {r : ℕ} → text p ≡ line → Written mid at line after r → Written before start (textBelow text (p + 1)) after r
-  below-step e v = written-as (written-on w (written-as v (sym e))) (below-next text p)
 
 -- The lines of one flow: one for each length that counts.
 module _ (recorded : List ℕ) (j i a T : ℕ) where

@@ -6,9 +6,6 @@ use mathlib.Core.Path.{_≡_, refl, ap}
 use native.Mathlib.Omega.{arith}
 use lib.Dec.{ltb}
 use lib.ListN.{length, getD, length-append, length-take}
-use Rattle.refusal.specs.Chain.{ifAccepted}
-use Rattle.refusal.specs.declared.Verdict.{Verdict}
-use Rattle.refusal.specs.declared.Verdict.the-variants.{Accepted, Refused}
 use Rattle.plan.specs.Range.{mostPorts}
 use Rattle.plan.specs.declared.Plan.{Plan}
 use Rattle.planfile.specs.Read.{readOf}
@@ -22,7 +19,7 @@ use Rattle.meter.specs.declared.Measured.{Measured}
 use Rattle.console.specs.Text.{HasRoom, Written}
 use Rattle.console.specs.TextBelow.{textBelow}
 use Rattle.console.proofs.DigitLaws.{digits-within}
-use Rattle.console.proofs.TextLaws.{refusal-short}
+use Rattle.console.proofs.TextLaws.{refusal-short, either-short}
 use Rattle.console.proofs.TextBelowLaws.{below-short}
 use Rattle.smoothness.specs.Head.{boardLinesOf}
 use Rattle.smoothness.specs.Printout.{lineOf, stretches, stretchesOf, counts, flowLinesOf, threeFramesOf, headLinesOf, printoutOf, lineRoom, printoutRoom}
@@ -74,10 +71,6 @@ module _ (plan : Plan) (few : plan .ports ≤ mostPorts) where
 
   heads-short : length (textBelow (headLinesOf plan) (plan .ports)) ≤ mostPorts * headRoom
   heads-short = omega (arith, below-short (headLinesOf plan) headRoom (plan .ports) (λ j _. head-short j))
-
-either-short : (k : ℕ) (v : Verdict) (x y : List ℕ) → (v ≡ Accepted → length x ≤ k) → length y ≤ k → length (ifAccepted v x y) ≤ k
-either-short k Accepted x y hx hy = hx refl
-either-short k (Refused r) x y hx hy = hy
 
 printout-short : (file : List ℕ) → length (printoutOf file) ≤ printoutRoom
 unfolding printoutOf

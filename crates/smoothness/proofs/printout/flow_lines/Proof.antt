@@ -8,9 +8,9 @@ use borrow.Author.Tests.{not-true, not-false}
 use Rattle.console.specs.Text.{Written}
 use Rattle.console.specs.TextBelow.{textBelow}
 use Rattle.console.proofs.TextLaws.{room-as, written-as}
-use Rattle.console.proofs.TextBelowLaws.{below-none, below-room}
+use Rattle.console.proofs.TextBelowLaws.{below-none, below-room, below-skip, below-step}
 use Rattle.smoothness.specs.Printout.{lineOf, stretches, stretchesOf, counts}
-use Rattle.smoothness.proofs.PrintoutLaws.{below-skip, below-step, stretchLine, by-stretches, no-stretch, measured-stretch}
+use Rattle.smoothness.proofs.PrintoutLaws.{stretchLine, by-stretches, no-stretch, measured-stretch}
 use Rattle.smoothness.proofs.StretchLaws.{lengthAt, length-within, counts-some}
 use Rattle.smoothness.proofs.printout.flow_lines.Statement.{statement}
 use Rattle.smoothness.proofs.printout.flow_lines.Tie as tie

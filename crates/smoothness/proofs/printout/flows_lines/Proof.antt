@@ -6,9 +6,9 @@ use lib.ListN.{length}
 use Rattle.console.specs.Text.{Written}
 use Rattle.console.specs.TextBelow.{textBelow}
 use Rattle.console.proofs.TextLaws.{room-as, written-as}
-use Rattle.console.proofs.TextBelowLaws.{below-none, below-room}
+use Rattle.console.proofs.TextBelowLaws.{below-none, below-room, below-skip, below-step}
 use Rattle.smoothness.specs.Head.{boardLinesOf}
-use Rattle.smoothness.proofs.PrintoutLaws.{below-skip, below-step, no-rate, some-rate}
+use Rattle.smoothness.proofs.PrintoutLaws.{no-rate, some-rate}
 use Rattle.smoothness.proofs.printout.flows_lines.Statement.{statement}
 use Rattle.smoothness.proofs.printout.flows_lines.Tie as tie
 

@@ -14,9 +14,9 @@ use Rattle.side.proofs.ColumnLaws.{columns-full}
 use Rattle.console.specs.Text.{Written}
 use Rattle.console.specs.TextBelow.{textBelow}
 use Rattle.console.proofs.TextLaws.{room-as, written-as}
-use Rattle.console.proofs.TextBelowLaws.{below-none, below-room}
+use Rattle.console.proofs.TextBelowLaws.{below-none, below-room, below-step}
 use Rattle.smoothness.specs.Printout.{headLinesOf}
-use Rattle.smoothness.proofs.PrintoutLaws.{below-step, head-by-rates, head-column}
+use Rattle.smoothness.proofs.PrintoutLaws.{head-by-rates, head-column}
 use Rattle.smoothness.proofs.printout.heads_lines.Statement.{statement}
 use Rattle.smoothness.proofs.printout.heads_lines.Tie as tie
 
