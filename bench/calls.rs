@@ -88,7 +88,7 @@ pub fn load_times(workload: &Workload, repeats: usize) -> [f64; 3] {
     })
 }
 
-// Before each load the waiting plan is dropped, or the load would be refused. That is one byte written, and is timed
+// Before each load the waiting plan is dropped, so that none is replaced. That is one byte written, and is timed
 // with all three.
 
 fn proved_loads(state: &mut Switch, workload: &Workload, rates: &[u16], loads: usize) {

@@ -6,5 +6,6 @@ pub mod MeasureLaws
 pub mod RecordLaws
 pub mod PaceLaws
 pub mod BoundLaws
+pub mod FrameLaws
 pub mod Theorem
 pub mod Examples

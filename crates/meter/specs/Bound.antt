@@ -23,7 +23,7 @@ pub record WithinBounds (l a T least most : ℕ) : Type 0 where
   pub at-least : leastBound l a T ≤ least
   pub at-most : most ≤ mostBound l a T
 
--- what is promised of the services of a flow with rate a
+-- what is promised of the services of a flow with rate a; a rate of 0 is no exception
 pub record Smooth (recorded : List ℕ) (flow a T : ℕ) : Type 0 where
   -- at each place of a record of any length
   pub everywhere : (l t : ℕ) → 1 ≤ l → Inside recorded l t → WithinBounds l a T (coverAt recorded flow l t) (coverAt recorded flow l t)
