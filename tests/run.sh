@@ -1,7 +1,8 @@
 #!/usr/bin/env bash
 # The tests beside the proofs: the programs on plan files and texts, the model's test of itself, installing the library, the
-# header and the examples in C and C++, and the comparison of the proved library with the model. Usage: tests/run.sh [SLOTS
-# [SEED]], how many slots are compared, and where random numbers begin.
+# header and the examples in C and C++, and the comparison of the proved library with the model, on each processor half of it.
+# Usage: tests/run.sh [SLOTS [SEED]], how many slots are compared, and where the random numbers of the two halves begin: with
+# SEED and with the next number.
 set -euo pipefail
 cd "$(dirname "$0")/.."
 slots=${1:-10000000}
@@ -46,6 +47,7 @@ programs
 joined
 
 rustc --edition 2021 -O tests/compare.rs -L target/staticlib -o target/compare
-beside compare target/compare "$slots" "$seed"
+beside compare target/compare $((slots / 2)) "$seed"
 bash tests/c.sh
+target/compare $((slots - slots / 2)) $((seed + 1))
 joined
