@@ -6,16 +6,17 @@ use mathlib.Core.List.{List}
 use native.Mathlib.Omega.{arith}
 use lib.Dec.{ltb}
 use lib.ListN.{length}
-use borrow.Author.Tests.{ltb-false}
+use borrow.Author.Tests.{le-ltb, ltb-false}
 use Rattle.refusal.specs.Chain.{ifAccepted}
 use Rattle.refusal.specs.declared.Verdict.{Verdict}
 use Rattle.refusal.specs.declared.Verdict.the-variants.{Accepted, Refused}
 use Rattle.refusal.proofs.ChainLaws.{refused-not-accepted, refuse-passed}
 use Rattle.meter.specs.Cover.{mostRecord, coverAt, Inside, FirstBest}
-use Rattle.meter.specs.Answer.{coverVerdict, Measures, refusedCover, CoversUnder, Covers, OneAnswer}
+use Rattle.meter.specs.Answer.{coverVerdict, Measures, refusedCover, CoversUnder, Covers, NoSlots, OneAnswer}
 use Rattle.meter.specs.Search.{orLess, orMore, keptTo, coverOf}
 use Rattle.meter.specs.declared.Measured.{Measured}
 use Rattle.meter.specs.declared.Stretch.{Stretch}
+use Rattle.meter.proofs.CoverLaws.{cover-within}
 use Rattle.meter.proofs.SearchLaws.{Order, Keeps, at-least, at-most, less-keeps, more-keeps, kept-first, first-only, first-in}
 
 or-false : (a b : Bool) → (a || b) ≡ false → (a ≡ false) × (b ≡ false)
@@ -28,6 +29,10 @@ unfolding coverVerdict
 accepted-record slots l e =
     let both = or-false (ltb slots l) (ltb mostRecord slots) (refuse-passed _ _ _ e .0) in
     (ltb-false slots l (both .0), ltb-false mostRecord slots (both .1))
+
+record-accepted : (slots l : ℕ) → l ≤ slots → slots ≤ mostRecord → coverVerdict slots l ≡ Accepted
+unfolding coverVerdict
+record-accepted slots l h short = rw (le-ltb slots l h, le-ltb mostRecord slots short) refl
 
 module _ (recorded : List ℕ) (flow l : ℕ) where
   abbrev c : ℕ → ℕ
@@ -78,3 +83,15 @@ module _ (recorded : List ℕ) (flow l : ℕ) where
 
   pub one-answer : OneAnswer (Covers recorded flow l)
   one-answer = record { answer = coverOf recorded flow l; is = cover-is; only = cover-only }
+
+pub no-slots : (recorded : List ℕ) (flow : ℕ) → NoSlots recorded flow
+no-slots recorded flow short =
+    covers-as recorded flow 0 Accepted _ (sym (record-accepted (length recorded) 0 (omega arith) short))
+    record {
+      accepted = refl;
+      least = record { inside = omega arith; there = sym (none 0); none-better = λ t i. omega arith; none-earlier = λ t i e. omega arith };
+      most = record { inside = omega arith; there = sym (none 0); none-better = λ t i. omega (arith, none t); none-earlier = λ t i e. omega arith };
+    }
+  where
+    none : (t : ℕ) → coverAt recorded flow 0 t ≡ 0
+    none t = omega (arith, cover-within recorded flow 0 t)

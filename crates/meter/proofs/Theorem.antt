@@ -5,8 +5,6 @@ use mathlib.Core.List.{List}
 use native.Mathlib.Omega.{arith}
 use lib.ListN.{length, getD}
 use Rattle.refusal.specs.declared.Verdict.the-variants.{Accepted}
-use Rattle.plan.specs.Lines.{flowOf}
-use Rattle.plan.specs.Accept.{acceptOf}
 use Rattle.plan.specs.Below.{sumBelow}
 use Rattle.plan.proofs.AcceptLaws.{accepted}
 use Rattle.multiplexer.specs.Window.{columnOf, Fits, FrameStart, WindowRule}
@@ -15,7 +13,7 @@ use Rattle.multiplexer.proofs.WindowLaws.{window-promise}
 use Rattle.meter.specs.Cover.{coverAt, Inside}
 use Rattle.meter.specs.Answer.{Covers}
 use Rattle.meter.specs.Record.{UnderOnePlan}
-use Rattle.meter.specs.Bound.{WithinBounds, Smooth, SmoothByWindows}
+use Rattle.meter.specs.Bound.{WithinBounds, Smooth, SmoothByWindows, SmoothHeads}
 use Rattle.meter.specs.declared.Measured.{Measured}
 use Rattle.meter.proofs.CoverLaws.{at, cover-split}
 use Rattle.meter.proofs.AnswerLaws.{covers-measures}
@@ -55,9 +53,7 @@ pub smooth-by-windows : (rs : List ℕ) (T : ℕ) → SmoothByWindows rs T
 smooth-by-windows rs T fits rule recorded made f below =
     record { everywhere = everywhere rs T fits rule f below recorded made; measured = measured rs T fits rule f below recorded made }
 
--- so every record of a head is, under an accepted plan
-pub head-smooth : (n T : ℕ) (rates : List ℕ) → acceptOf n T rates ≡ Accepted → (i j : ℕ) → i < n → j < n
-    → (recorded : List ℕ) → UnderOnePlan (columnOf rates n j) T recorded → Smooth recorded i (getD rates (flowOf n i j) 0) T
+pub head-smooth : (n T : ℕ) (rates : List ℕ) → SmoothHeads n T rates
 head-smooth n T rates ok i j hi hj recorded made =
     let plan = accepted n T rates ok in
     let size = column-length rates n j in

@@ -1,6 +1,6 @@
 -- "For a flow number and a length l they want the least and the most services in any l consecutive slots of the record,
 -- with the first place where each occurs." What `cover` answers.
-use Prim.Native.Nat.{ℕ}
+use Prim.Native.Nat.{ℕ, _≤_}
 use mathlib.Core.Path.{_≡_}
 use mathlib.Core.Bool.{Bool, _||_}
 use mathlib.Core.List.{List}
@@ -41,6 +41,10 @@ CoversUnder (Refused why) recorded flow l r = r ≡ refusedCover (Refused why)
 
 abbrev pub Covers : List ℕ → ℕ → ℕ → Measured → Type 0
 Covers recorded flow l r = CoversUnder (coverVerdict (length recorded) l) recorded flow l r
+
+-- "For l = 0 both are 0 at place 0", also for an empty record
+abbrev pub NoSlots : List ℕ → ℕ → Type 0
+NoSlots recorded flow = length recorded ≤ mostRecord → Covers recorded flow 0 (record { verdict = Accepted; least = none; most = none })
 
 -- there is one answer that satisfies a description
 pub record OneAnswer (Is : Measured → Type 0) : Type 0 where

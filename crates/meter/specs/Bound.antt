@@ -5,8 +5,10 @@ use mathlib.Core.Path.{_≡_}
 use mathlib.Core.List.{List}
 use lib.ListN.{length, getD}
 use Rattle.refusal.specs.declared.Verdict.the-variants.{Accepted}
+use Rattle.plan.specs.Lines.{flowOf}
+use Rattle.plan.specs.Accept.{acceptOf}
 use Rattle.multiplexer.specs.Choose.{roundedUp}
-use Rattle.multiplexer.specs.Window.{Fits, FrameStart, WindowRule}
+use Rattle.multiplexer.specs.Window.{columnOf, Fits, FrameStart, WindowRule}
 use Rattle.meter.specs.Cover.{coverAt, Inside}
 use Rattle.meter.specs.Answer.{Covers}
 use Rattle.meter.specs.Record.{UnderOnePlan}
@@ -37,3 +39,9 @@ SmoothByWindows rs T =
     Fits rs T → ((ks : List ℕ) → FrameStart ks (length rs) → WindowRule rs ks T)
     → (recorded : List ℕ) → UnderOnePlan rs T recorded
     → (f : ℕ) → f < length rs → Smooth recorded f (getD rs f 0) T
+
+-- So it holds of the record of each head of an accepted plan.
+abbrev pub SmoothHeads : ℕ → ℕ → List ℕ → Type 0
+SmoothHeads n T rates =
+    acceptOf n T rates ≡ Accepted → (i j : ℕ) → i < n → j < n
+    → (recorded : List ℕ) → UnderOnePlan (columnOf rates n j) T recorded → Smooth recorded i (getD rates (flowOf n i j) 0) T

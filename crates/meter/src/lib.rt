@@ -11,6 +11,9 @@ use refusal::Verdict;
 // The slots of the longest record.
 const MOST_RECORD: usize = 65535;
 
+// The entry of a slot that serves nobody.
+pub const IDLE_SLOT: u16 = 65535;
+
 // How many services a stretch has, and the place of its first slot.
 #[repr(C)]
 pub struct Stretch {
@@ -115,7 +118,7 @@ fn refused(verdict: Verdict) -> Measured
     }
 }
 
-// The record has an entry for each slot: the number of the flow that was served, or 65,535 for none.
+// The record has an entry for each slot: the number of the flow that was served, or IDLE_SLOT.
 pub fn cover(recorded: &[u16], flow: u16, l: usize) -> Measured
     ensures { λ r. ⌜ Covers (now (recorded .entry)) flow l r ⌝ }
 {

@@ -5,6 +5,7 @@ ghost use lib.ListN.{length, take};
 ghost use Rattle.side.specs.Choices.{ChoosesPort};
 ghost use Rattle.meter.specs.Record.{entryOf, nextSlot};
 ghost use Rattle.smoothness.specs.Printout.{threeFramesOf};
+use meter::IDLE_SLOT;
 use multiplexer::Choice;
 use multiplexer::Multiplexer;
 use plan::range::MOST_PORTS;
@@ -12,9 +13,6 @@ use plan::range::MOST_SLOTS;
 
 // Room for the record of three frames.
 pub const RECORD_ROOM: usize = 3 * MOST_SLOTS as usize;
-
-// The entry of a slot that serves nobody.
-const IDLE_SLOT: u16 = 65535;
 
 fn entry(choice: Choice) -> u16
     requires { ⌜ ChoosesPort choice ⌝ }
