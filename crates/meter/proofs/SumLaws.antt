@@ -1,11 +1,10 @@
 -- Sums over the numbers below n that are taken from another place on.
-use Prim.Native.Nat.{ℕ, zero, suc, _+_, _<_, _≤_}
+use Prim.Native.Nat.{ℕ, zero, suc, _+_, _-_, _≤_}
 use mathlib.Core.Path.{_≡_, ap}
-use mathlib.Core.Logic.{⊎-elim}
 use native.Mathlib.Nat.{add-zero, add-suc}
 use native.Mathlib.Omega.{arith}
 use Rattle.plan.specs.Below.{sumBelow}
-use Rattle.plan.proofs.BelowLaws.{lt-or-le}
+use Rattle.plan.proofs.BelowLaws.{sum-mono, sum-const}
 
 module _ (x : ℕ → ℕ) where
   -- one place further on: one term enters and one leaves
@@ -22,14 +21,8 @@ module _ (x : ℕ → ℕ) where
   sum-first (suc n) = omega (arith, sum-first n)
 
   pub sum-grows : (m n : ℕ) → m ≤ n → sumBelow x m ≤ sumBelow x n
-  sum-grows m zero l = let e : m ≡ 0 = omega arith in rw e (omega arith)
-  sum-grows m (suc n) l =
-      ⊎-elim
-      (λ (b : m < suc n). omega (arith, sum-grows m n (omega arith)))
-      (λ (b : suc n ≤ m). let e : m ≡ suc n = omega arith in rw e (omega arith))
-      (lt-or-le m (suc n))
+  sum-grows m n l = let e : m + (n - m) ≡ n = omega arith in omega (arith, sum-split m (n - m), ap (sumBelow x) e)
 
 -- terms of at most 1
 pub sum-ones : (x : ℕ → ℕ) (n : ℕ) → ((k : ℕ) → x k ≤ 1) → sumBelow x n ≤ n
-sum-ones x zero h = omega arith
-sum-ones x (suc n) h = omega (arith, sum-ones x n h, h n)
+sum-ones x n h = omega (arith, sum-mono x (λ k. 1) n (λ k _. h k), sum-const 1 n)
