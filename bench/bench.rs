@@ -26,11 +26,16 @@ use clock::{report, report_other, report_proved};
 use workload::{Workload, SIZES};
 
 const REPEATS: usize = 30;
+/// Frames whose deadlines are read, each before one whose deadlines are divided for: slots and choices are timed.
+const TABLE_SIZES: [(usize, u32); 6] = [(4, 64), (4, 63), (8, 64), (8, 63), (16, 64), (16, 63)];
 
 fn main() {
     let arguments: Vec<u32> = std::env::args().skip(1).filter_map(|argument| argument.parse().ok()).collect();
     match arguments[..] {
-        [] => SIZES.into_iter().for_each(|(ports, frame)| time_all(ports, frame, REPEATS)),
+        [] => {
+            SIZES.into_iter().for_each(|(ports, frame)| time_all(ports, frame, REPEATS));
+            TABLE_SIZES.into_iter().for_each(|(ports, frame)| time_slots(&Workload::new(ports, frame), REPEATS));
+        }
         [ports, frame, repeats] => time_all(ports as usize, frame, repeats as usize),
         _ => eprintln!("use: bench [ports frame repeats]"),
     }
@@ -39,18 +44,27 @@ fn main() {
 fn time_all(ports: usize, frame: u32, repeats: usize) {
     let workload = Workload::new(ports, frame);
     let size = format!("N = {ports}, T = {frame}");
-    let [proved, by_value, in_place, less] = slot::slot_times(&workload, repeats);
-    report(&format!("slot, {size}, every line full, all queues busy"), [proved, by_value, in_place]);
-    report_other("does less: in place, nothing checked, deadlines kept", less, proved);
+    time_slots(&workload, repeats);
     report(&format!("arrival, {size}, queues half full"), calls::arrival_times(&workload, repeats));
     report(&format!("load, {size}"), calls::load_times(&workload, repeats));
-    let [proved, by_value, in_place, ranked] = choice::choice_times(&workload, repeats);
-    report(&format!("choice, {size}"), [proved, by_value, in_place]);
-    report_other("plain Rust, deadline and rate as one number", ranked, proved);
     time_text(&workload, repeats);
     time_boost(&workload, "periods from 0 on", 0, repeats);
     time_boost(&workload, "the last periods of 32 bits", boost::LAST, repeats);
     time_meter(&workload, repeats);
+}
+
+/// A slot, and one port's choice.
+fn time_slots(workload: &Workload, repeats: usize) {
+    let size = format!("N = {}, T = {}", workload.ports, workload.frame);
+    let [proved, by_value, in_place, less] = slot::slot_times(workload, repeats);
+    report(&format!("slot, {size}, every line full, all queues busy"), [proved, by_value, in_place]);
+    report_other("does less: in place, nothing checked, deadlines kept", less, proved);
+    let [proved, by_value, in_place, ranked] = choice::choice_times(workload, repeats);
+    report(&format!("choice, {size}"), [proved, by_value, in_place]);
+    report_other("plain Rust, deadline and rate as one number", ranked, proved);
+    if workload.frame == choice::TABLE_FRAME {
+        report_other("plain Rust, the same with deadlines read", choice::read_time(workload, repeats), proved);
+    }
 }
 
 fn time_boost(workload: &Workload, periods: &str, first: u32, repeats: usize) {

@@ -1,5 +1,5 @@
-# What the tests of the programs share. tests/frame.sh, tests/smoothness.sh and tests/sheet.sh read it in; the program that a
-# script tests is in `program`.
+# What the tests of the programs share. tests/frame.sh, tests/smoothness.sh, tests/sheet.sh and tests/deadlines.sh read it in;
+# the program that a script tests is in `program`.
 
 fail() {
     echo "tests/${0##*/}: $*" >&2

@@ -27,6 +27,7 @@ joined() {
 programs() {
     bash tests/frame.sh
     bash tests/smoothness.sh
+    bash tests/deadlines.sh
     rustc --edition 2021 -O tests/plan_files.rs -o target/plan_files
     target/plan_files
     bash tests/sheet.sh
@@ -41,7 +42,7 @@ mkdir -p target
 trap 'kill "${beside:-}" 2>/dev/null || true' EXIT
 
 # Two calls of rt would write the same files.
-rt check frame sheet smoothness >target/programs.log 2>&1 || { cat target/programs.log; exit 1; }
+rt check frame sheet smoothness deadlines >target/programs.log 2>&1 || { cat target/programs.log; exit 1; }
 beside install bash tests/install.sh
 programs
 joined

@@ -25,6 +25,7 @@ pub fn compare<S: Operations>(rounds: usize, random: &mut Random, tally: &mut Ta
     inputs.fair_start()?;
     inputs.desk_view_edges()?;
     inputs.multiplexer_edges()?;
+    inputs.table_edges()?;
     inputs.start_edges()?;
     inputs.switch_edges()?;
     inputs.file_edges()?;

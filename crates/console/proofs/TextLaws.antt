@@ -3,7 +3,7 @@ use Prim.Native.Nat.{ℕ, _+_, _-_, _≤_}
 use mathlib.Core.List.{List, [], _++_, append-assoc, append-nil}
 use mathlib.Core.Path.{_≡_, refl, ap, sym, subst, _∙_}
 use native.Mathlib.Omega.{arith}
-use lib.ListN.{length, take, drop, length-append, length-drop, drop-of-length-le}
+use lib.ListN.{length, take, drop, length-append, length-drop, length-take, drop-of-length-le}
 use lib.Seq.{take-all, take-length, take-append-seam, take-append-add, drop-append-seam, drop-append-add, drop-drop, length-take-le}
 use Rattle.refusal.specs.Chain.{ifAccepted}
 use Rattle.refusal.specs.Number.{verdictNumberOf}
@@ -42,6 +42,10 @@ written-on {before} {mid} {after} {x} {y} {at} {m} {r} v w =
       bytes = w .bytes ∙ ap (λ (l : List ℕ). l ++ y) (v .bytes) ∙ append-assoc (take at before) x y;
       kept = w .kept ∙ rw (w .place) (drop-later mid before m (length y) (v .kept));
     }
+
+-- a buffer holds a text that was written at its start
+pub written-within : {before text after : List ℕ} {r : ℕ} → Written before 0 text after r → r ≤ length after
+written-within {after = after} {r = r} w = omega (arith, w .place, length-take r after, ap length (w .bytes))
 
 -- A text that is being written into a buffer: its beginning stands there up to the place `at`, and `rest` is left.
 pub record Begun (before : List ℕ) (start : ℕ) (text rest after : List ℕ) (at : ℕ) : Type 0 where

@@ -23,13 +23,11 @@ module _ (a k T t : ℕ) (told-apart : deadline a k T < never) (fits : a ≤ mos
   pub not-soon : (a ≡ 0) ⊎ (t * a < k * T) → Soonest a k T t never
   not-soon h = record { is = rw (ineligible a k T t h) refl; told-apart = told-apart; fits = fits }
 
+  pub soon : 0 < a → k * T ≤ t * a → (r : ℕ) → r ≡ deadline a k T → Soonest a k T t r
+  soon pos may r e = record { is = e ∙ (rw (is-eligible a k T t pos may) refl); told-apart = told-apart; fits = fits }
+
   pub some-time : 0 < a → k * T ≤ t * a → (y r : ℕ) → y ≡ (k + 1) * T + (a - 1) → r ≡ y / a → Soonest a k T t r
-  some-time pos may y r e q =
-      record {
-        is = q ∙ (rw (is-eligible a k T t pos may) (quotient-rounded ((k + 1) * T) y a e));
-        told-apart = told-apart;
-        fits = fits;
-      }
+  some-time pos may y r e q = soon pos may r (q ∙ quotient-rounded ((k + 1) * T) y a e)
 
 pub soonest-small : (a k T t r : ℕ) → Soonest a k T t r → r ≤ never
 soonest-small a k T t r s = go (eligible a k T t) (s .is)

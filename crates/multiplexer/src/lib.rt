@@ -8,9 +8,15 @@ ghost use Rattle.multiplexer.specs.Choose.{chooseOf};
 ghost use Rattle.multiplexer.specs.Count.{oneMore, countOf, endFrameOf};
 ghost use Rattle.multiplexer.specs.Candidate.{never, rankOf, Soonest, orFlow, choiceOf};
 ghost use Rattle.multiplexer.specs.Serve.{serveOf};
+ghost use Rattle.multiplexer.specs.Deadlines.{tableFrame};
+use crate::deadlines::read_deadline;
 use plan::range::MOST_PORTS;
 
+mod deadlines;
 mod valid;
+
+// How many slots the frames have that there is a table of deadlines for, and its highest rate.
+pub const TABLE_FRAME: u32 = 64;
 
 const MOST_COUNT: u16 = 65535;
 
@@ -69,9 +75,9 @@ fn at_least_one(a: u64) -> u64
     a
 }
 
-// The flow's deadline, or NEVER where it is not eligible. The division comes before the tests, so that no jump depends on
-// which flows are eligible: a processor can't foresee that.
-fn soonest(rate: u16, served: u16, frame: u32, slot: u32) -> u64
+// The flow's deadline, or NEVER where it is not eligible, by the formula. The division comes before the tests, so that no jump
+// depends on which flows are eligible: a processor can't foresee that.
+fn soonest_divided(rate: u16, served: u16, frame: u32, slot: u32) -> u64
     ensures { λ r. ⌜ Soonest rate served frame slot r ⌝ }
 {
     let a = rate as u64;
@@ -85,6 +91,32 @@ fn soonest(rate: u16, served: u16, frame: u32, slot: u32) -> u64
         return NEVER;
     }
     deadline
+}
+
+// The same in a frame of 64 slots, by the table. A flow that has had all its services, or has rate 0, is not eligible before
+// slot 64.
+fn soonest_read(rate: u16, served: u16, slot: u32) -> u64
+    requires { ⌜ (rate ≤ tableFrame) × (slot < tableFrame) ⌝ }
+    ensures { λ r. ⌜ Soonest rate served tableFrame slot r ⌝ }
+{
+    if rate <= served {
+        return NEVER;
+    }
+    let deadline = read_deadline(rate, served + 1);
+    if slot * (rate as u32) < (served as u32) * TABLE_FRAME {
+        return NEVER;
+    }
+    deadline as u64
+}
+
+// The flow's deadline, or NEVER where it is not eligible.
+fn soonest(rate: u16, served: u16, frame: u32, slot: u32) -> u64
+    ensures { λ r. ⌜ Soonest rate served frame slot r ⌝ }
+{
+    if (frame == TABLE_FRAME) & (slot < TABLE_FRAME) & (rate as u32 <= TABLE_FRAME) {
+        return soonest_read(rate, served, slot);
+    }
+    soonest_divided(rate, served, frame, slot)
 }
 
 // Deadline and rate as one number: the smaller deadline makes the smaller rank, and of equal deadlines the larger rate. One

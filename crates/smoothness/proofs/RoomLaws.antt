@@ -2,10 +2,10 @@
 use Prim.Native.Nat.{ℕ, _*_, _≤_}
 use mathlib.Core.Bool.{Bool, true, false, cond}
 use mathlib.Core.List.{List, []}
-use mathlib.Core.Path.{_≡_, refl, ap}
+use mathlib.Core.Path.{_≡_, refl}
 use native.Mathlib.Omega.{arith}
 use lib.Dec.{ltb}
-use lib.ListN.{length, getD, length-append, length-take}
+use lib.ListN.{length, getD, length-append}
 use Rattle.plan.specs.Range.{mostPorts}
 use Rattle.plan.specs.declared.Plan.{Plan}
 use Rattle.planfile.specs.Read.{readOf}
@@ -16,7 +16,7 @@ use Rattle.multiplexer.proofs.PortLaws.{column-length}
 use Rattle.meter.specs.Bound.{leastBound, mostBound}
 use Rattle.meter.specs.Search.{coverOf}
 use Rattle.meter.specs.declared.Measured.{Measured}
-use Rattle.console.specs.Text.{HasRoom, Written}
+use Rattle.console.specs.Text.{HasRoom}
 use Rattle.console.specs.TextBelow.{textBelow}
 use Rattle.console.proofs.DigitLaws.{digits-within}
 use Rattle.console.proofs.TextLaws.{refusal-short, either-short}
@@ -83,7 +83,3 @@ printout-short file =
 -- so a buffer of that many bytes has room for every printout
 pub printout-room : (file buffer : List ℕ) → length buffer ≡ printoutRoom → HasRoom buffer 0 (printoutOf file)
 printout-room file buffer long = omega (arith, printout-short file)
-
--- and holds one that was written at its start
-pub written-within : {before text after : List ℕ} {r : ℕ} → Written before 0 text after r → r ≤ length after
-written-within {after = after} {r = r} w = omega (arith, w .place, length-take r after, ap length (w .bytes))

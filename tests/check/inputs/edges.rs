@@ -174,6 +174,25 @@ impl<S: Operations> Inputs<'_, S> {
         Ok(())
     }
 
+    /// The deadlines that the library reads from a table, and those next to it that it divides for: in the last slot of a frame
+    /// each service to come is held to a flow of rate T, which has every slot for a deadline.
+    pub fn table_edges(&mut self) -> Result<(), String> {
+        for frame in [63, 64, 65] {
+            for rate in (0..=66).chain([u16::MAX]) {
+                for served in (0..=rate.min(66) + 1).chain([u16::MAX]) {
+                    let mut multiplexer = Multiplexer { served: [served; MOST_PORTS] };
+                    for slot in [0, 31, 62, 63, 64, 65, u32::MAX] {
+                        for rival in 0..=frame as u16 {
+                            multiplexer.served[0] = rival;
+                            self.choose(&multiplexer, &[frame as u16, rate], frame, slot)?;
+                        }
+                    }
+                }
+            }
+        }
+        Ok(())
+    }
+
     pub fn start_edges(&mut self) -> Result<(), String> {
         for ports in PORTS {
             for frame in FRAMES {

@@ -52,15 +52,17 @@ impl<S: Operations> Inputs<'_, S> {
         self.desk_view(&running, &waiting, ports, input, takeover, out_length)
     }
 
-    /// Small numbers make ties; any numbers make products of all sizes.
+    /// Small numbers make ties; any numbers make products of all sizes; in frames of 64 slots rates to 64 are read from a table.
     pub fn random_choice(&mut self) -> Result<(), String> {
-        let most = self.random.pick(&[2, 6, 4096, u16::MAX]);
+        let most = self.random.pick(&[2, 6, 65, 4096, u16::MAX]);
         let length = self.random.within(0, 17);
         let rates = self.random.rates(length, most);
         let served: Vec<u16> = self.random.rates(MOST_PORTS, most);
         let multiplexer = Multiplexer { served: served.try_into().expect("16 counts") };
-        let frame = if self.random.flip() { 1 + self.random.below(4096) as u32 } else { self.random.next() as u32 };
-        let slot = if self.random.flip() { self.random.below(4096) as u32 } else { self.random.next() as u32 };
+        let any = [64, 1 + self.random.below(4096) as u32, self.random.next() as u32];
+        let frame = self.random.pick(&any);
+        let any = [self.random.below(65) as u32, self.random.below(4096) as u32, self.random.next() as u32];
+        let slot = self.random.pick(&any);
         let choice = self.choose(&multiplexer, &rates, frame, slot)?;
         self.count(&multiplexer, choice)?;
         let ports = self.random.within(0, 17);

@@ -4,7 +4,7 @@ use mathlib.Core.Path.{refl, sym, subst}
 use lib.ListN.{length}
 use lib.Seq.{length-take-le}
 use Rattle.console.specs.Input.{ReadWithin}
-use Rattle.smoothness.proofs.RoomLaws.{written-within}
+use Rattle.console.proofs.TextLaws.{written-within}
 use Rattle.smoothness.proofs.main.Statement.{statement}
 use Rattle.smoothness.proofs.main.Tie as tie
 

@@ -1,0 +1,27 @@
+-- "A program prints 2,080 numbers: for a = 1 to 64 and s = 1 to a, in that order, s × 64 / a rounded up, one a line."
+use Prim.Native.Nat.{ℕ, suc, _+_, _*_}
+use mathlib.Core.List.{List, _++_}
+use Rattle.multiplexer.specs.Choose.{roundedUp}
+use Rattle.multiplexer.specs.Deadlines.{tableFrame}
+use Rattle.console.specs.Text.{decimalOf}
+use Rattle.console.specs.TextBelow.{textBelow}
+use Rattle.console.specs.Refused.{lineEnd}
+
+-- "one a line"
+abbrev pub lineOf : ℕ → List ℕ
+lineOf value = decimalOf value ++ lineEnd
+
+-- "s = 1 to a"
+unfoldable pub rateLinesOf : ℕ → List ℕ
+rateLinesOf a = textBelow (λ k. lineOf (roundedUp ((k + 1) * tableFrame) a)) a
+
+-- "a = 1 to 64"
+unfoldable pub printoutOf : List ℕ
+printoutOf = textBelow (λ b. rateLinesOf (b + 1)) tableFrame
+
+-- Room for the printout: a number has 20 digits at most, and LF stands behind it; no rate has more lines than the highest one.
+abbrev pub lineRoom : ℕ
+lineRoom = 20 + 1
+
+abbrev pub printoutRoom : ℕ
+printoutRoom = tableFrame * (tableFrame * lineRoom)
