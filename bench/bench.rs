@@ -1,6 +1,7 @@
 //! What a slot, an arrival, a load, a choice, reading a text, boosting a plan and measuring a record cost: the proved
 //! library through its C interface, the model by value and the model in place, timed in turn in one run. For a slot also a
 //! switch that does less; for a choice, a text, for boost and the meter plain Rust that goes about it as the library does.
+//! Slots and choices are timed once more in frames of 64 slots, whose deadlines are read, beside frames of 63.
 //!
 //! `bench/run.sh` builds and runs it. With PORTS FRAME REPEATS it times one size, each batch that many times: for a
 //! profiler.

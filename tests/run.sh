@@ -24,6 +24,12 @@ joined() {
     return $status
 }
 
+# The archive, and the comparison that links it.
+library() {
+    bash tests/install.sh
+    rustc --edition 2021 -O tests/compare.rs -L target/staticlib -o target/compare
+}
+
 programs() {
     bash tests/frame.sh
     bash tests/smoothness.sh
@@ -43,11 +49,10 @@ trap 'kill "${beside:-}" 2>/dev/null || true' EXIT
 
 # Two calls of rt would write the same files.
 rt check frame sheet smoothness deadlines >target/programs.log 2>&1 || { cat target/programs.log; exit 1; }
-beside install bash tests/install.sh
+beside library library
 programs
 joined
 
-rustc --edition 2021 -O tests/compare.rs -L target/staticlib -o target/compare
 beside compare target/compare $((slots / 2)) "$seed"
 bash tests/c.sh
 target/compare $((slots - slots / 2)) $((seed + 1))

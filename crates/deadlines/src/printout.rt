@@ -45,8 +45,8 @@ fn rate_lines(out: &mut [u8], from: usize, a: u32) -> usize
     at
 }
 
-// Puts the printout at the start of the buffer, and answers how many bytes it has.
-pub fn printout(out: &mut [u8]) -> usize
+// The lines of all rates.
+fn rates_lines(out: &mut [u8]) -> usize
     requires { ⌜ HasRoom (now out) 0 printoutOf ⌝ }
     ensures { λ r. ⌜ Written (now (out .entry)) 0 printoutOf (now (out .exit)) r ⌝ }
 {
@@ -55,4 +55,11 @@ pub fn printout(out: &mut [u8]) -> usize
         at = rate_lines(out, at, b + 1);
     }
     at
+}
+
+// Puts the printout at the start of the buffer, and answers how many bytes it has.
+pub fn printout(out: &mut [u8; PRINTOUT_ROOM]) -> usize
+    ensures { λ r. ⌜ Written (now (out .entry)) 0 printoutOf (now (out .exit)) r ⌝ }
+{
+    rates_lines(out)
 }

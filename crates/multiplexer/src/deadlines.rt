@@ -2117,7 +2117,7 @@ pub fn read_deadline(rate: u16, service: u16) -> u8
     ensures { λ r. ⌜ r ≡ roundedUp (service * tableFrame) rate ⌝ }
 {
     let a = rate as usize;
-    // the table has those of all smaller rates before
+    // the table has those of all smaller rates before it, and a constant those from the place that is taken off
     let place = (a * (a - 1) >> 1) + (service as usize - 1);
     if rate <= 8 {
         return RATES_1_TO_8[place];

@@ -8,7 +8,6 @@ ghost use Rattle.multiplexer.specs.Choose.{chooseOf};
 ghost use Rattle.multiplexer.specs.Count.{oneMore, countOf, endFrameOf};
 ghost use Rattle.multiplexer.specs.Candidate.{never, rankOf, Soonest, orFlow, choiceOf};
 ghost use Rattle.multiplexer.specs.Serve.{serveOf};
-ghost use Rattle.multiplexer.specs.Deadlines.{tableFrame};
 use crate::deadlines::read_deadline;
 use plan::range::MOST_PORTS;
 
@@ -93,28 +92,20 @@ fn soonest_divided(rate: u16, served: u16, frame: u32, slot: u32) -> u64
     deadline
 }
 
-// The same in a frame of 64 slots, by the table. A flow that has had all its services, or has rate 0, is not eligible before
-// slot 64.
-fn soonest_read(rate: u16, served: u16, slot: u32) -> u64
-    requires { ⌜ (rate ≤ tableFrame) × (slot < tableFrame) ⌝ }
-    ensures { λ r. ⌜ Soonest rate served tableFrame slot r ⌝ }
-{
-    if rate <= served {
-        return NEVER;
-    }
-    let deadline = read_deadline(rate, served + 1);
-    if slot * (rate as u32) < (served as u32) * TABLE_FRAME {
-        return NEVER;
-    }
-    deadline as u64
-}
-
-// The flow's deadline, or NEVER where it is not eligible.
+// The flow's deadline, or NEVER where it is not eligible: in a frame of 64 slots by the table, otherwise by the formula. Before
+// slot 64 a flow that has had all its services, or has rate 0, is not eligible, and the table has nothing of it.
 fn soonest(rate: u16, served: u16, frame: u32, slot: u32) -> u64
     ensures { λ r. ⌜ Soonest rate served frame slot r ⌝ }
 {
     if (frame == TABLE_FRAME) & (slot < TABLE_FRAME) & (rate as u32 <= TABLE_FRAME) {
-        return soonest_read(rate, served, slot);
+        if rate <= served {
+            return NEVER;
+        }
+        let deadline = read_deadline(rate, served + 1);
+        if slot * (rate as u32) < (served as u32) * TABLE_FRAME {
+            return NEVER;
+        }
+        return deadline as u64;
     }
     soonest_divided(rate, served, frame, slot)
 }

@@ -1,25 +1,18 @@
 use borrow.Author.Needs.{needs}
-use Prim.Native.Nat.{ℕ}
 use mathlib.Core.Path.{sym}
-use lib.ListN.{length-replicate}
 use lib.Seq.{length-take-le}
 use Rattle.console.proofs.TextLaws.{written-within}
-use Rattle.deadlines.specs.Printout.{printoutRoom}
-use Rattle.deadlines.proofs.RoomLaws.{printout-room}
 use Rattle.deadlines.proofs.main.Statement.{statement}
 use Rattle.deadlines.proofs.main.Tie as tie
 
-slice-aggregate-printout : tie.Need-slice-aggregate-printout
-slice-aggregate-printout c = search needs
-
 printout-requires : tie.Need-printout-requires
-printout-requires c κs = printout-room _ (length-replicate {A = ℕ} printoutRoom 0)
+printout-requires c κs = search needs
 
 array-share-prefix-out : tie.Need-array-share-prefix-out
-array-share-prefix-out c = written-within (c .before .printout .ensures)
+array-share-prefix-out c = written-within (c .printout .ensures)
 
 slice-aggregate-write-all : tie.Need-slice-aggregate-write-all
-slice-aggregate-write-all c = sym (length-take-le _ _ (written-within (c .before .before .printout .ensures)))
+slice-aggregate-write-all c = sym (length-take-le _ _ (written-within (c .before .printout .ensures)))
 
 write-all-requires : tie.Need-write-all-requires
 write-all-requires c κs = search needs
@@ -40,7 +33,6 @@ pub main-spec : {M : Type 1} → statement M
 main-spec =
     tie.close
     (tie.spec
-    slice-aggregate-printout
     printout-requires
     array-share-prefix-out
     slice-aggregate-write-all
