@@ -1,6 +1,7 @@
 #!/usr/bin/env bash
-# The tests beside the proofs: the programs on plan files and texts, the model's test of itself, installing the library, the
-# header and the examples in C and C++, and the comparison of the proved library with the model, on each processor half of it.
+# The tests beside the proofs: the programs on plan files and texts, the table of deadlines, the model's test of itself,
+# installing the library, the header and the examples in C and C++, and the comparison of the proved library with the model, on
+# each processor half of it.
 # Usage: tests/run.sh [SLOTS [SEED]], how many slots are compared, and where the random numbers of the two halves begin: with
 # SEED and with the next number.
 set -euo pipefail

@@ -1,5 +1,5 @@
 -- "A program prints 2,080 numbers: for a = 1 to 64 and s = 1 to a, in that order, s × 64 / a rounded up, one a line."
-use Prim.Native.Nat.{ℕ, suc, _+_, _*_}
+use Prim.Native.Nat.{ℕ, _+_, _*_}
 use mathlib.Core.List.{List, _++_}
 use Rattle.multiplexer.specs.Choose.{roundedUp}
 use Rattle.multiplexer.specs.Deadlines.{tableFrame}

@@ -1,12 +1,12 @@
 -- In frames of 64 slots the choice that reads the table of deadlines is the choice by the formula.
 use Prim.Native.Nat.{ℕ, zero, suc, _+_, _*_, _<_, _≤_}
-use mathlib.Core.Path.{_≡_, refl, ap, _∙_}
+use mathlib.Core.Path.{_≡_, refl, ap}
 use mathlib.Core.Bool.{Bool, true, false, cond, _&&_}
 use mathlib.Core.List.{List}
 use native.Mathlib.Nat.{mul-le-mul}
 use native.Mathlib.Omega.{arith}
 use lib.ListN.{getD}
-use Rattle.multiplexer.specs.Choose.{rateAt, eligibleAt, deadlineAt, goesBefore, goesBeforeChoice, better, bestOf, flowsOf, chooseOf, IsChoice}
+use Rattle.multiplexer.specs.Choose.{rateAt, eligibleAt, deadlineAt, goesBeforeChoice, better, bestOf, flowsOf, chooseOf, IsChoice}
 use Rattle.multiplexer.specs.Deadlines.{tableFrame, TableRule, readAt, readsBefore, bestRead, InTable, Agrees}
 use Rattle.multiplexer.specs.declared.Choice.{Choice}
 use Rattle.multiplexer.specs.declared.Choice.the-variants.{Idle, Flow}
