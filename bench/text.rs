@@ -3,7 +3,7 @@
 
 use crate::clock::{batches, best_of, time, BATCH};
 use crate::ffi::Library;
-use crate::model::plan::{check_sums, MOST_FLOWS};
+use crate::model::plan::{check_shape, check_sums, MOST_FLOWS};
 use crate::operations::{Model, Operations};
 use crate::workload::Workload;
 use std::hint::black_box;
@@ -46,7 +46,7 @@ fn model(ports: usize, frame: u32, text: &[u8], rates: &mut [u16]) -> bool {
 
 #[inline(never)]
 fn one_pass(ports: usize, frame: u32, text: &[u8], rates: &mut [u16]) -> bool {
-    if !(1..=16).contains(&ports) || !(1..=4096).contains(&frame) || rates.len() != ports * ports {
+    if check_shape(ports, frame).is_err() || rates.len() != ports * ports {
         return false;
     }
     let mut values = [0; MOST_FLOWS];

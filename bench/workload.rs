@@ -1,8 +1,9 @@
 //! What is measured: a switch with every line full and cells in all queues, and the calls on it.
 
+use crate::model::plan::{LONGEST_FRAME, MOST_PORTS};
 use crate::model::{regulator, Switch};
 
-pub const SIZES: [(usize, u32); 2] = [(16, 4096), (4, 64)];
+pub const SIZES: [(usize, u32); 2] = [(MOST_PORTS, LONGEST_FRAME), (4, 64)];
 /// Cells that a queue has room for.
 pub const DEPTH: usize = 64;
 

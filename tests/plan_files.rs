@@ -12,6 +12,7 @@ mod operations;
 use check::inputs::plan_file;
 use check::plans;
 use check::random::Random;
+use model::plan::LONGEST_FRAME;
 use model::printout::printout;
 use model::smoothness::smoothness;
 use std::collections::BTreeMap;
@@ -84,7 +85,7 @@ fn met_in(text: &str) -> &'static str {
 fn random_file(random: &mut Random) -> Vec<u8> {
     let ports = random.within(1, 16);
     let frame = match random.below(16) {
-        0 => 4096,
+        0 => LONGEST_FRAME as usize,
         1 | 2 => random.within(1, 8), // in a short frame `smoothness` measures fewer lengths
         _ => random.within(1, 100),
     };

@@ -44,8 +44,19 @@ in_pieces() {
     tail -c +10 "$1"
 }
 
-# The plan file of 16 ports and 4,096 slots in which every rate is 256, so that every line is full.
+# The slots of the longest frame, and the rate that each of 16 flows can have in it.
+most_slots=4096
+full_rate=$((most_slots / 16))
+
+# word NUMBER: 16 bits, low byte first.
+word() {
+    printf "\\x$(printf %02x $(($1 % 256)))\\x$(printf %02x $(($1 / 256)))"
+}
+
+# The plan file of 16 ports and the longest frame in which every rate is full_rate, so that every line is full.
 full_plan() {
-    printf 'LSP\001\000\020\000\020'
-    printf '\000\001%.0s' {1..256}
+    local flow
+    printf 'LSP\001\000\020'
+    word "$most_slots"
+    for flow in {1..256}; do word "$full_rate"; done
 }

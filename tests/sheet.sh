@@ -36,10 +36,11 @@ misused() {
 
 # The plan with all lines full, as a text of 2,064 bytes.
 longest() {
-    local board
+    local board field
+    printf -v field '"%05d"' "$full_rate"
     for board in {0..15}; do
-        printf '"00256",%.0s' {1..15}
-        printf '"00256"\r\n'
+        printf "$field,%.0s" {1..15}
+        printf '%s\r\n' "$field"
     done
 }
 
@@ -68,7 +69,7 @@ accepted "1,000 zeros before N and T" "$plan" "${zeros}3" "${zeros}15" <"$text"
 for n in 0 17 99999999999999999999 259 65539 4294967299 18446744073709551619 "1${zeros}3"; do
     refused "N = $n" 1 "$n" 15 <"$text"
 done
-for t in 0 4097 99999999999999999999 65551 4294967311 18446744073709551631 "1${zeros}15"; do
+for t in 0 $((most_slots + 1)) 99999999999999999999 65551 4294967311 18446744073709551631 "1${zeros}15"; do
     refused "T = $t" 2 3 "$t" <"$text"
 done
 refused "N and T out of range" 1 99999999999999999999 99999999999999999999 <"$text"
@@ -84,10 +85,10 @@ misused 99 x <"$text"
 
 longest >"$out/longest.csv"
 [ "$(stat -c %s "$out/longest.csv")" -eq 2064 ] || fail "the longest text has not 2,064 bytes"
-accepted "the longest text" <(full_plan) 16 4096 <"$out/longest.csv"
+accepted "the longest text" <(full_plan) 16 "$most_slots" <"$out/longest.csv"
 for byte in 0 , '"' ' ' $'\r' $'\n'; do
     printf '%s' "$byte" | cat "$out/longest.csv" - >"$out/longer.csv"
-    refused "the longest text and $(printf %q "$byte")" 16 16 4096 <"$out/longer.csv"
+    refused "the longest text and $(printf %q "$byte")" 16 16 "$most_slots" <"$out/longer.csv"
 done
 head -c 4000000 /dev/zero | cat "$text" - >"$out/megabytes.csv"
 refused "megabytes" 16 3 15 <"$out/megabytes.csv"

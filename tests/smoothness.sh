@@ -13,9 +13,11 @@ lines() {
     [ $# -eq 0 ] || printf '%s\n' "$@"
 }
 
-# one_flow T RATE: the plan file of one port, T below 256.
+# one_flow T RATE: the plan file of one port.
 one_flow() {
-    printf "LSP\\001\\000\\001\\x$(printf %02x "$1")\\000\\x$(printf %02x "$2")\\000"
+    printf 'LSP\001\000\001'
+    word "$1"
+    word "$2"
 }
 
 # frame_of T RATE LINE..: what is printed for one flow, worked out by hand.
@@ -26,11 +28,15 @@ frame_of() {
 # The printout of full_plan: each head serves board 0 to 15 in order, round after round, so that 16 slots have one service of
 # each.
 full_printout() {
-    local out in
+    local out in slots rounds
     lines
     for out in {0..15}; do
         for in in {0..15}; do
-            printf "$out $in 256 %s\n" "1 0 0 1 1" "1024 64 63 64 65" "2048 128 127 128 129" "4096 256 255 256 257"
+            echo "$out $in $full_rate 1 0 0 1 1"
+            for slots in $((most_slots / 4)) $((most_slots / 2)) "$most_slots"; do
+                rounds=$((slots / 16))
+                echo "$out $in $full_rate $slots $rounds $((rounds - 1)) $rounds $((rounds + 1))"
+            done
         done
     done
 }

@@ -2,7 +2,7 @@
 
 use super::plans;
 use super::random::Random;
-use crate::model::plan::{MOST_FLOWS, MOST_PORTS};
+use crate::model::plan::{LONGEST_FRAME, MOST_FLOWS, MOST_PORTS};
 use crate::model::{Crosspoint, Multiplexer, Plan, Queue, Switch};
 
 /// Makes a state that is valid, or broken by this clause alone as far as the clause allows.
@@ -53,9 +53,9 @@ struct Shape {
 
 fn shape(random: &mut Random) -> Shape {
     let ports = random.pick(&[1, 2, 3, 4, 5, 7, 11, 15, 16]);
-    let longest = random.pick(&[2, 10, 100, 4096]);
+    let longest = random.pick(&[2, 10, 100, LONGEST_FRAME]);
     let depth = random.pick(&[1, 2, 3, 7, 63, 64]);
-    Shape { ports, frame: random.within(2, longest) as u32, depth }
+    Shape { ports, frame: random.within(2, longest as usize) as u32, depth }
 }
 
 pub fn any_state(random: &mut Random) -> Switch {
@@ -150,7 +150,7 @@ fn running_ports(random: &mut Random, past: bool) -> Switch {
 
 fn running_frame(random: &mut Random, past: bool) -> Switch {
     let short = random.flip();
-    let shape = Shape { frame: if short { 1 } else { 4096 }, ..shape(random) };
+    let shape = Shape { frame: if short { 1 } else { LONGEST_FRAME }, ..shape(random) };
     let mut state = state_of(random, shape);
     if past {
         state.waits = 0;
@@ -158,7 +158,7 @@ fn running_frame(random: &mut Random, past: bool) -> Switch {
             state.running.rates.fill(0);
             state.running.frame = 0;
         } else {
-            state.running.frame = random.pick(&[4097, 65_536, u32::MAX]);
+            state.running.frame = random.pick(&[LONGEST_FRAME + 1, 65_536, u32::MAX]);
         }
     }
     state
@@ -213,7 +213,7 @@ fn waiting_ports(random: &mut Random, past: bool) -> Switch {
 fn waiting_frame(random: &mut Random, past: bool) -> Switch {
     let mut state = any_state(random);
     let (ports, frame) = (state.running.ports, state.running.frame);
-    let next = if frame == 4096 || random.flip() { frame - 1 } else { frame + 1 };
+    let next = if frame == LONGEST_FRAME || random.flip() { frame - 1 } else { frame + 1 };
     wait(random, &mut state, ports, if past { next } else { frame });
     state
 }
@@ -235,7 +235,7 @@ fn unused_waiting_plan(random: &mut Random, past: bool) -> Switch {
     let mut state = any_state(random);
     state.waiting = garbage(random).waiting;
     if random.flip() {
-        state.waiting.frame = random.pick(&[0, 4097, u32::MAX]);
+        state.waiting.frame = random.pick(&[0, LONGEST_FRAME + 1, u32::MAX]);
     } else {
         state.waiting.frame = random.pick(&[state.running.frame, 9]);
         state.waiting.ports = random.pick(&[0, 17, 3000, usize::MAX]);

@@ -1,5 +1,7 @@
 //! Random numbers that a seed repeats.
 
+use crate::model::plan::LONGEST_FRAME;
+
 pub struct Random(u64);
 
 impl Random {
@@ -44,6 +46,11 @@ impl Random {
         } else {
             self.next() as u32
         }
+    }
+
+    /// A frame length of a plan.
+    pub fn frame(&mut self) -> u32 {
+        self.within(1, LONGEST_FRAME as usize) as u32
     }
 
     /// Any period number, those near 0 and those near 2^32 more often.

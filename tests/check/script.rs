@@ -3,6 +3,7 @@
 use super::plans;
 use super::random::Random;
 use super::runs::{Call, Start};
+use crate::model::plan::LONGEST_FRAME;
 use crate::model::{Port, SlotAnswer};
 
 /// How cells come to the queues.
@@ -188,7 +189,7 @@ impl Script {
         let (input, output) = (random.below(ports), random.below(ports));
         match random.below(7) {
             0 => Call::Load { ports: random.pick(&[0, 17, usize::MAX]), frame, rates },
-            1 => Call::Load { ports, frame: random.pick(&[0, 4097, u32::MAX]), rates },
+            1 => Call::Load { ports, frame: random.pick(&[0, LONGEST_FRAME + 1, u32::MAX]), rates },
             2 => {
                 rates.push(0);
                 Call::Load { ports, frame, rates }
@@ -206,7 +207,7 @@ impl Script {
                 Call::Load { ports, frame, rates }
             }
             5 => {
-                let frame = if frame == 1 { 2 } else { random.pick(&[frame - 1, frame + 1]).min(4096) };
+                let frame = if frame == 1 { 2 } else { random.pick(&[frame - 1, frame + 1]).min(LONGEST_FRAME) };
                 Call::Load { ports, frame, rates: plans::accepted(random, ports, frame) }
             }
             _ => {
@@ -229,12 +230,13 @@ fn random_ports(random: &mut Random) -> usize {
 }
 
 fn random_frame(random: &mut Random) -> u32 {
+    let longest = LONGEST_FRAME as usize;
     let frame = match random.below(12) {
         0..=3 => random.within(1, 12),
         4..=7 => random.within(13, 200),
-        8..=10 => random.within(201, 2000),
-        _ if random.flip() => 4096,
-        _ => random.within(2001, 4095),
+        8..=10 => random.within(201, longest / 2),
+        _ if random.flip() => longest,
+        _ => random.within(longest / 2 + 1, longest - 1),
     };
     frame as u32
 }

@@ -6,7 +6,7 @@ use super::handmade::{any_state, CLAUSES, THIRD_CELLS};
 use super::plans;
 use super::random::Random;
 use super::tally::Tally;
-use crate::model::plan::MOST_PORTS;
+use crate::model::plan::{LONGEST_FRAME, MOST_PORTS};
 use crate::model::Switch;
 use crate::operations::Operations;
 
@@ -119,7 +119,7 @@ fn arrive<S: Operations>(state: &Switch, random: &mut Random) -> Outcome {
 
 fn load<S: Operations>(state: &Switch, random: &mut Random) -> Outcome {
     let ports = if random.one_in(12) { random.within(1, 16) } else { state.running.ports.clamp(1, MOST_PORTS) };
-    let frame = if random.one_in(12) { random.within(1, 4096) as u32 } else { state.running.frame.clamp(1, 4096) };
+    let frame = if random.one_in(12) { random.frame() } else { state.running.frame.clamp(1, LONGEST_FRAME) };
     calls::load::<S>(state, ports, frame, &plans::accepted(random, ports, frame))
 }
 

@@ -122,11 +122,11 @@ fn with_rate(random: &mut Random, rate: fn(frame: u16) -> u16) -> PlanText {
 /// Two boards have T + 1 slots for one head between them.
 fn column_above(random: &mut Random) -> PlanText {
     let ports = random.within(2, MOST_PORTS);
-    let frame = random.within(1, LONGEST_FRAME as usize);
+    let frame = random.frame();
     let mut rates = vec![0; ports * ports];
     let (first, output) = (random.below(ports), random.below(ports));
     let second = (first + random.within(1, ports - 1)) % ports;
     rates[first * ports + output] = frame as u16;
     rates[second * ports + output] = 1;
-    PlanText::new(random, Writing::Mixed, ports, frame as u32, &rates)
+    PlanText::new(random, Writing::Mixed, ports, frame, &rates)
 }

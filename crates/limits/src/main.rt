@@ -14,6 +14,7 @@ use crate::switches::loads;
 use crate::switches::output;
 use crate::switches::places;
 use crate::switches::slot;
+use plan::range::MOST_SLOTS;
 
 mod meters;
 mod plans;
@@ -22,8 +23,8 @@ mod switches;
 
 fn case_11() {
     arrivals(&mut [0; 64]);
-    frame(4096);
-    frame(4097);
+    frame(MOST_SLOTS);
+    frame(MOST_SLOTS + 1);
 }
 
 fn plan_rows() {

@@ -2,6 +2,7 @@
 use crate::report::report;
 use crate::report::report_at;
 use plan::acceptance::accept;
+use plan::range::MOST_SLOTS;
 use planfile::read;
 use plantext::read_text;
 
@@ -25,5 +26,5 @@ pub fn file(what: &[u8], bytes: &[u8]) {
 
 // A text for one port.
 pub fn text(what: &[u8], text: &[u8]) {
-    report(what, read_text(1, 4096, text, &mut [0; 1]));
+    report(what, read_text(1, MOST_SLOTS, text, &mut [0; 1]));
 }

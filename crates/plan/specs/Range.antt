@@ -1,9 +1,9 @@
--- "N is 1 to 16. The frame length T is 1 to 4,096 slots." Only this file and src/range.rt have these limits; all others use
--- the names.
+-- The limits of N and T. Only this file and src/range.rt have their numbers; all others use the names.
 use Prim.Native.Nat.{ℕ, _*_}
 use mathlib.Core.Bool.{Bool, _&&_}
 use lib.Dec.{leb}
 
+-- "N is 1 to" this
 abbrev pub mostPorts : ℕ
 mostPorts = 16
 
@@ -11,6 +11,7 @@ mostPorts = 16
 abbrev pub mostFlows : ℕ
 mostFlows = mostPorts * mostPorts
 
+-- "The frame length T is 1 to" so many "slots"
 abbrev pub mostSlots : ℕ
 mostSlots = 4096
 

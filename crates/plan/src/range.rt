@@ -9,6 +9,7 @@ pub const MOST_PORTS: usize = 16;
 // The flows between that many inputs and outputs.
 pub const MOST_FLOWS: usize = MOST_PORTS * MOST_PORTS;
 
+// The slots of the longest frame.
 pub const MOST_SLOTS: u32 = 4096;
 
 pub fn ports_in_range(n: usize) -> bool

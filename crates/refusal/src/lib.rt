@@ -5,9 +5,9 @@ ghost use Rattle.refusal.specs.Number.{numberOf, verdictNumberOf};
 // A case for each row of the scope's table "What is sent back", and for each number that a change request adds. Row 9 has none:
 // since request L5 a load is accepted while a plan waits.
 pub enum Refusal {
-    // N is outside 1 to 16
+    // N is outside 1 to MOST_PORTS
     PortsOutOfRange,
-    // T is outside 1 to 4,096
+    // T is outside 1 to MOST_SLOTS
     FrameOutOfRange,
     // a rate, demand or output list isn't N x N long
     ListLength,
@@ -15,7 +15,7 @@ pub enum Refusal {
     RowAboveFrame,
     // a column sum is above T
     ColumnAboveFrame,
-    // Q is outside 1 to 64
+    // Q is outside 1 to MOST_DEPTH
     DepthOutOfRange,
     // the store isn't N x N x Q long
     StoreLength,

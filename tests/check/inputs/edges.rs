@@ -6,17 +6,17 @@ use crate::check::guarded::Guarded;
 use crate::check::plans;
 use crate::check::same::same;
 use crate::check::texts::{PlanText, WRITINGS};
-use crate::model::plan::MOST_PORTS;
+use crate::model::plan::{LONGEST_FRAME, MOST_PORTS};
 use crate::model::{Multiplexer, Switch};
 use crate::operations::{Choice, Model, Operations};
 
 /// 2^32 and its like have squares that agree with a short length modulo 2^64.
 const PORTS: [usize; 13] = [0, 1, 2, 3, 4, 15, 16, 17, 255, 256, 1 << 32, (1 << 32) + 1, usize::MAX];
-const FRAMES: [u32; 10] = [0, 1, 2, 3, 64, 4095, 4096, 4097, 65_536, u32::MAX];
-const SLOTS: [u32; 7] = [0, 1, 2, 4095, 4096, 65_535, u32::MAX];
+const FRAMES: [u32; 10] = [0, 1, 2, 3, 64, LONGEST_FRAME - 1, LONGEST_FRAME, LONGEST_FRAME + 1, 65_536, u32::MAX];
+const SLOTS: [u32; 7] = [0, 1, 2, LONGEST_FRAME - 1, LONGEST_FRAME, 65_535, u32::MAX];
 const LENGTHS: [usize; 9] = [0, 1, 4, 16, 255, 256, 257, 289, 65_536];
 const DEPTHS: [usize; 9] = [0, 1, 2, 63, 64, 65, 256, 1 << 32, usize::MAX];
-const COUNTS: [u16; 6] = [0, 1, 2, 4095, 4096, u16::MAX];
+const COUNTS: [u16; 6] = [0, 1, 2, LONGEST_FRAME as u16 - 1, LONGEST_FRAME as u16, u16::MAX];
 
 /// What C can hand over for a yes or no: every byte, and numbers whose low bytes are 0.
 fn flags() -> impl Iterator<Item = u32> {
@@ -35,7 +35,7 @@ impl<S: Operations> Inputs<'_, S> {
             return lists;
         }
         let flows = ports * ports;
-        let frame = frame.min(4096) as u16;
+        let frame = frame.min(LONGEST_FRAME) as u16;
         let row_and_column = |rate: u16| {
             let line = |flow: usize| if flow < ports || flow % ports == 0 { rate } else { 0 };
             (0..flows).map(line).collect::<Vec<u16>>()
@@ -88,7 +88,7 @@ impl<S: Operations> Inputs<'_, S> {
         for ports in 1..=MOST_PORTS {
             for middle in [0, 1 << 16, 1 << 31, u32::MAX] {
                 for period in middle.saturating_sub(20)..=middle.saturating_add(20) {
-                    let frame = self.random.pick(&[1, 6, 64, 4096]);
+                    let frame = self.random.pick(&[1, 6, 64, LONGEST_FRAME]);
                     let plan = plans::scaled(self.random, ports, frame);
                     self.boost(ports, frame, period, &plan, plan.len())?;
                 }
@@ -218,7 +218,7 @@ impl<S: Operations> Inputs<'_, S> {
 
     /// Arrival, load and step on fresh states and on the state that is all 0.
     pub fn switch_edges(&mut self) -> Result<(), String> {
-        for (ports, frame, depth) in [(0, 0, 0), (1, 1, 1), (2, 6, 3), (16, 4096, 64)] {
+        for (ports, frame, depth) in [(0, 0, 0), (1, 1, 1), (2, 6, 3), (16, LONGEST_FRAME, 64)] {
             let mut state = Switch::ZERO;
             if ports > 0 {
                 let rates = plans::accepted(self.random, ports, frame);
@@ -252,9 +252,9 @@ impl<S: Operations> Inputs<'_, S> {
             self.read(&b"LSP\x01\0\0\x01\0"[..length])?;
         }
         for ports in 0..=18 {
-            for frame in [0, 1, 6, 4096, 4097, 65_535] {
+            for frame in [0, 1, 6, LONGEST_FRAME, LONGEST_FRAME + 1, 65_535] {
                 let rates = match (ports, frame) {
-                    (1..=16, 1..=4096) => plans::accepted(self.random, ports, frame),
+                    (1..=16, 1..=LONGEST_FRAME) => plans::accepted(self.random, ports, frame),
                     _ => vec![0; ports * ports],
                 };
                 let file = plan_file(ports as u8, frame as u16, &rates);
@@ -274,7 +274,7 @@ impl<S: Operations> Inputs<'_, S> {
         for length in LENGTHS {
             self.read(&vec![0; length])?;
             self.read(&vec![0xFF; length])?;
-            let mut file = plan_file(16, 4096, &vec![0; length / 2]);
+            let mut file = plan_file(16, LONGEST_FRAME as u16, &vec![0; length / 2]);
             file.resize(length.max(8), 0);
             self.read(&file)?;
         }

@@ -4,15 +4,15 @@ use super::{plan_file, Inputs};
 use crate::check::plans;
 use crate::check::same::same;
 use crate::check::texts::{damage, PlanText, WRITINGS};
-use crate::model::plan::MOST_PORTS;
+use crate::model::plan::{LONGEST_FRAME, MOST_PORTS};
 use crate::model::Multiplexer;
 use crate::operations::Operations;
 
 impl<S: Operations> Inputs<'_, S> {
     fn random_shape(&mut self) -> (usize, u32) {
         let ports = self.random.within(1, 16);
-        let longest = self.random.pick(&[4, 64, 4096]);
-        (ports, self.random.within(1, longest) as u32)
+        let longest = self.random.pick(&[4, 64, LONGEST_FRAME]);
+        (ports, self.random.within(1, longest as usize) as u32)
     }
 
     /// Accepted, or with a few rates changed.
@@ -54,14 +54,14 @@ impl<S: Operations> Inputs<'_, S> {
 
     /// Small numbers make ties; any numbers make products of all sizes; in frames of 64 slots rates to 64 are read from a table.
     pub fn random_choice(&mut self) -> Result<(), String> {
-        let most = self.random.pick(&[2, 6, 65, 4096, u16::MAX]);
+        let most = self.random.pick(&[2, 6, 65, LONGEST_FRAME as u16, u16::MAX]);
         let length = self.random.within(0, 17);
         let rates = self.random.rates(length, most);
         let served: Vec<u16> = self.random.rates(MOST_PORTS, most);
         let multiplexer = Multiplexer { served: served.try_into().expect("16 counts") };
-        let any = [64, 1 + self.random.below(4096) as u32, self.random.next() as u32];
+        let any = [64, self.random.frame(), self.random.next() as u32];
         let frame = self.random.pick(&any);
-        let any = [self.random.below(65) as u32, self.random.below(4096) as u32, self.random.next() as u32];
+        let any = [self.random.below(65) as u32, self.random.frame() - 1, self.random.next() as u32];
         let slot = self.random.pick(&any);
         let choice = self.choose(&multiplexer, &rates, frame, slot)?;
         self.count(&multiplexer, choice)?;
@@ -84,7 +84,7 @@ impl<S: Operations> Inputs<'_, S> {
             1 => multiplexer.served[self.random.below(length)] += 1,
             _ => {}
         }
-        let frame = if self.random.flip() { 1 + self.random.below(4096) as u32 } else { self.random.next() as u32 };
+        let frame = if self.random.flip() { self.random.frame() } else { self.random.next() as u32 };
         let due = (u64::from(turn) * u64::from(frame)).div_ceil(u64::from(unit));
         let slot = self.random.pick(&[due.saturating_sub(1), due, u64::from(u32::MAX)]).min(u64::from(u32::MAX)) as u32;
         self.choose(&multiplexer, &rates, frame, slot)?;
