@@ -7,7 +7,7 @@
  * cells, and a crosspoint of up to two cells between its board and its head.
  *
  *     N   1 to 16     GAMBYRE_MOST_PORTS   ports of a side
- *     T   1 to 4096   GAMBYRE_MOST_SLOTS   slots of a frame
+ *     T   1 to 1024   GAMBYRE_MOST_SLOTS   slots of a frame
  *     Q   1 to 64     GAMBYRE_MOST_DEPTH   cells of a queue (`depth` below)
  *
  * Flow (i, j) has number i * N + j: its rate stands at that place of a list of N * N rates (row by row, a row for each
@@ -77,7 +77,7 @@ extern "C" {
 enum {
     GAMBYRE_MOST_PORTS = 16,    /* N, of a side */
     GAMBYRE_MOST_FLOWS = 256,   /* N * N */
-    GAMBYRE_MOST_SLOTS = 4096,  /* T, of a frame */
+    GAMBYRE_MOST_SLOTS = 1024,  /* T, of a frame */
     GAMBYRE_MOST_DEPTH = 64,    /* Q, cells of a queue */
     GAMBYRE_MOST_STORE = 16384, /* N * N * Q, numbers of a store */
     GAMBYRE_MOST_FILE = 520,    /* 8 + 2 * N * N, bytes of a plan file */
@@ -95,7 +95,7 @@ enum {
 #define GAMBYRE_VERDICTS(VERDICT)                                                                   \
     VERDICT(GAMBYRE_ACCEPTED, 0, "accepted")                                                        \
     VERDICT(GAMBYRE_PORTS_OUT_OF_RANGE, 1, "N is outside 1 to 16")                                  \
-    VERDICT(GAMBYRE_FRAME_OUT_OF_RANGE, 2, "T is outside 1 to 4096")                                \
+    VERDICT(GAMBYRE_FRAME_OUT_OF_RANGE, 2, "T is outside 1 to 1024")                                \
     VERDICT(GAMBYRE_LIST_LENGTH, 3, "a rate, demand or output list is not N * N long")              \
     VERDICT(GAMBYRE_ROW_ABOVE_FRAME, 4, "the rates of a board add up to more than T")               \
     VERDICT(GAMBYRE_COLUMN_ABOVE_FRAME, 5, "the rates of a head add up to more than T")             \

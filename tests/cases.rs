@@ -225,8 +225,8 @@ pub fn c11_limits<S: Operations>() {
     let reply = S::arrive(&state, &mut store, 0, 0, 65);
     assert_eq!((reply.verdict, reply.state), (11, state), "C11");
     assert_eq!(store, (1..=64).collect::<Vec<u32>>(), "C11");
-    assert_eq!(S::accept(1, 4096, &[4096]), 0, "C11");
-    assert_eq!(S::accept(1, 4097, &[4096]), 2, "C11");
+    assert_eq!(S::accept(1, 1024, &[1024]), 0, "C11");
+    assert_eq!(S::accept(1, 1025, &[1024]), 2, "C11");
 }
 
 /// Worked by hand. In slot 8 the deadlines are 48 / 5 and 60 / 6: a tie once rounded up, so the smaller quotient waits.
@@ -411,7 +411,7 @@ pub fn refusal_order_of_readers<S: Operations>() {
 
     let mut rates = [8; 4];
     assert_eq!(S::read_text(17, 0, b"", &mut rates), 1);
-    assert_eq!(S::read_text(2, 4097, b"", &mut rates[..3]), 2);
+    assert_eq!(S::read_text(2, 1025, b"", &mut rates[..3]), 2);
     assert_eq!(S::read_text(2, 1, b"", &mut rates[..3]), 3);
     assert_eq!(S::read_text(2, 1, b"9,9\r\n9,", &mut rates), 16);
     assert_eq!(S::read_text(2, 1, b"1,0\r\n1,1", &mut rates), 4, "a later row before an earlier column");

@@ -45,7 +45,7 @@ in_pieces() {
 }
 
 # The slots of the longest frame, and the rate that each of 16 flows can have in it.
-most_slots=4096
+most_slots=1024
 full_rate=$((most_slots / 16))
 
 # word NUMBER: 16 bits, low byte first.

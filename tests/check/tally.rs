@@ -10,7 +10,7 @@ use std::collections::BTreeMap;
 pub const VERDICTS: [(usize, &str); 17] = [
     (0, "accepted"),
     (1, "N outside 1 to 16"),
-    (2, "T outside 1 to 4,096"),
+    (2, "T outside 1 to 1,024"),
     (3, "list isn't N × N long"),
     (4, "row sum above T"),
     (5, "column sum above T"),

@@ -4,7 +4,7 @@ use super::refusal::{refuse_if, Refusal};
 
 pub const MOST_PORTS: usize = 16;
 pub const MOST_FLOWS: usize = MOST_PORTS * MOST_PORTS;
-pub const LONGEST_FRAME: u32 = 4096;
+pub const LONGEST_FRAME: u32 = 1024;
 
 /// The rates stand row by row, one row an input; only the first `ports` × `ports` count.
 #[derive(Clone, Copy, Debug, PartialEq, Eq)]

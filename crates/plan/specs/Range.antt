@@ -13,7 +13,7 @@ mostFlows = mostPorts * mostPorts
 
 -- "The frame length T is 1 to" so many "slots"
 abbrev pub mostSlots : ℕ
-mostSlots = 4096
+mostSlots = 1024
 
 unfoldable pub portsInRange : ℕ → Bool
 portsInRange n = leb 1 n && leb n mostPorts

@@ -10,7 +10,7 @@ pub const MOST_PORTS: usize = 16;
 pub const MOST_FLOWS: usize = MOST_PORTS * MOST_PORTS;
 
 // The slots of the longest frame.
-pub const MOST_SLOTS: u32 = 4096;
+pub const MOST_SLOTS: u32 = 1024;
 
 pub fn ports_in_range(n: usize) -> bool
     ensures { λ r. ⌜ r ≡ portsInRange n ⌝ }
