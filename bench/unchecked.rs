@@ -36,17 +36,17 @@ struct Deadlines {
     first_ranks: [i16; MOST_PORTS],
 }
 
-/// Later than any slot.
+/// Later than any slot, and behind the rank of any eligible flow.
 const NEVER: i16 = i16::MAX;
 
 /// The smaller deadline has the lower rank, and of equal ones the lower place. An eligible flow's deadline is 1 to
-/// 4,096, so that both fit 16 bits; they are signed, since plain x86-64 has a vector minimum for these only.
+/// 1,024, so that both fit 14 bits; they are signed, since plain x86-64 has a vector minimum for these only.
 fn rank(deadline: u32, place: usize) -> i16 {
-    (((deadline - 1) << 4) | place as u32) as i16 ^ i16::MIN
+    ((deadline - 1) << 4 | place as u32) as i16
 }
 
 fn deadline_of(rank: i16) -> i16 {
-    ((rank ^ i16::MIN) as u16 >> 4) as i16 + 1
+    (rank >> 4) + 1
 }
 
 fn place_of(rank: i16) -> usize {
@@ -100,13 +100,12 @@ impl Deadlines {
         Some(usize::from(self.flows[place]))
     }
 
-    /// The highest rank stands for an idle port and for place 15 at the last deadline; that place's slot tells which.
     #[inline(always)]
     fn choose(&self, slot: u32) -> Option<usize> {
         let slot = slot as i16;
-        let eligible_rank = |place| if self.eligible_from[place] <= slot { self.ranks[place] } else { i16::MAX };
-        let chosen = place_of(lowest(std::array::from_fn(eligible_rank)));
-        (self.eligible_from[chosen] <= slot).then_some(chosen)
+        let eligible_rank = |place| if self.eligible_from[place] <= slot { self.ranks[place] } else { NEVER };
+        let first = lowest(std::array::from_fn(eligible_rank));
+        (first != NEVER).then_some(place_of(first))
     }
 
     /// A flow is eligible again from the deadline that it just met.

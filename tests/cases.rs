@@ -25,6 +25,7 @@ pub fn all<S: Operations>() {
     text_of_c3::<S>();
     l6_stretches::<S>();
     l6_two_boards::<S>();
+    l8_longest_frame::<S>();
     refusal_examples::<S>();
     refusal_order::<S>();
     refusal_order_of_readers::<S>();
@@ -330,6 +331,32 @@ pub fn l6_two_boards<S: Operations>() {
 fn covered(least: (usize, usize), most: (usize, usize)) -> CoverReply {
     let stretch = |(services, place)| Stretch { services, place };
     CoverReply { verdict: 0, least: stretch(least), most: stretch(most) }
+}
+
+/// A plan of 1,025 slots or more is refused 2 wherever it comes from, and a state that a hand gave one is refused 12.
+pub fn l8_longest_frame<S: Operations>() {
+    for (frame, verdict) in [(1024, 0), (1025, 2), (4096, 2), (u16::MAX, 2)] {
+        let slots = u32::from(frame);
+        let [low, high] = frame.to_le_bytes();
+        assert_eq!(S::accept(1, slots, &[1]), verdict, "L8, plan");
+        assert_eq!(S::start(1, slots, &[1], 1, &[0]).verdict, verdict, "L8, start");
+        assert_eq!(S::read(&[b'L', b'S', b'P', 1, 0, 1, low, high, 1, 0]).verdict, verdict, "L8, file");
+        assert_eq!(S::read_text(1, slots, b"1", &mut [0]), verdict, "L8, text");
+        assert_eq!(S::scale(1, slots, &[1], &mut [0]), verdict, "L8, scale");
+        assert_eq!(S::boost(1, slots, 0, &[1], &mut [0]), verdict, "L8, boost");
+    }
+    let longest = start::<S>(1, 1024, &[1024], 1, &[0]);
+    assert_eq!(S::load(&longest, 1, 1025, &[1024]).verdict, 2, "L8, load");
+    let loaded = S::load(&longest, 1, 1024, &[1]);
+    assert_eq!(loaded.verdict, 0, "L8, load");
+    assert_eq!(S::step(&loaded.state, &[0]).verdict, 0, "L8, both plans of 1,024 slots");
+    for (running, waiting) in [(1025, 1024), (1024, 1025), (1025, 1025)] {
+        let mut state = loaded.state;
+        (state.running.frame, state.waiting.frame) = (running, waiting);
+        assert_eq!(S::load(&state, 1, running, &[1]).verdict, 12, "L8, state");
+        assert_eq!(S::arrive(&state, &mut [0], 0, 0, 7).verdict, 12, "L8, state");
+        assert_eq!(S::step(&state, &[0]).verdict, 12, "L8, state");
+    }
 }
 
 /// The small examples of the table of refusals.

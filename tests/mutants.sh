@@ -53,6 +53,8 @@ try "a waiting plan is judged though none waits" switch.rs 's/(!self.plan_waits(
 try "only byte 1 says that a plan waits" switch.rs 's/self.waits != 0/self.waits == 1/'
 try "only 1 is a yes for the desk view" ../operations.rs 's/takeover != 0/takeover == 1/'
 try "only 1 is the kind of a flow" ../operations.rs 's/self.kind != 0/self.kind == 1/'
+try "a frame of 1,025 slots is accepted" plan.rs 's/LONGEST_FRAME: u32 = 1024/LONGEST_FRAME: u32 = 1025/'
+try "a frame of 1,024 slots is refused" plan.rs 's/LONGEST_FRAME: u32 = 1024/LONGEST_FRAME: u32 = 1023/'
 try "columns before rows" plan.rs 's/row_sum(ports, rates, input) > frame, Refusal::RowAboveFrame/column_sum(ports, rates, input) > frame, Refusal::ColumnAboveFrame/; s/column_sum(ports, rates, output) > frame, Refusal::ColumnAboveFrame/row_sum(ports, rates, output) > frame, Refusal::RowAboveFrame/'
 try "the second place is cleared too" switch.rs 's/self.cells\[0\] = 0;/self.cells = [0, 0];/'
 try "a sixth digit in a field" plantext.rs 's/usize = 5/usize = 6/'

@@ -12,7 +12,8 @@ use crate::operations::{Choice, Model, Operations};
 
 /// 2^32 and its like have squares that agree with a short length modulo 2^64.
 const PORTS: [usize; 13] = [0, 1, 2, 3, 4, 15, 16, 17, 255, 256, 1 << 32, (1 << 32) + 1, usize::MAX];
-const FRAMES: [u32; 10] = [0, 1, 2, 3, 64, LONGEST_FRAME - 1, LONGEST_FRAME, LONGEST_FRAME + 1, 65_536, u32::MAX];
+/// 4,096 was the longest frame before request L8.
+const FRAMES: [u32; 11] = [0, 1, 2, 3, 64, LONGEST_FRAME - 1, LONGEST_FRAME, LONGEST_FRAME + 1, 4096, 65_536, u32::MAX];
 const SLOTS: [u32; 7] = [0, 1, 2, LONGEST_FRAME - 1, LONGEST_FRAME, 65_535, u32::MAX];
 const LENGTHS: [usize; 9] = [0, 1, 4, 16, 255, 256, 257, 289, 65_536];
 const DEPTHS: [usize; 9] = [0, 1, 2, 63, 64, 65, 256, 1 << 32, usize::MAX];
@@ -252,7 +253,7 @@ impl<S: Operations> Inputs<'_, S> {
             self.read(&b"LSP\x01\0\0\x01\0"[..length])?;
         }
         for ports in 0..=18 {
-            for frame in [0, 1, 6, LONGEST_FRAME, LONGEST_FRAME + 1, 65_535] {
+            for frame in [0, 1, 6, LONGEST_FRAME, LONGEST_FRAME + 1, 4096, 65_535] {
                 let rates = match (ports, frame) {
                     (1..=16, 1..=LONGEST_FRAME) => plans::accepted(self.random, ports, frame),
                     _ => vec![0; ports * ports],
