@@ -7,7 +7,7 @@
  * cells, and a crosspoint of up to two cells between its board and its head.
  *
  *     N   1 to 16     GAMBYRE_MOST_PORTS   ports of a side
- *     T   1 to 1024   GAMBYRE_MOST_SLOTS   slots of a frame
+ *     T   1 to 1024   GAMBYRE_MOST_SLOTS   slots of a frame; before 0.15.0 it was 1 to 4096
  *     Q   1 to 64     GAMBYRE_MOST_DEPTH   cells of a queue (`depth` below)
  *
  * Flow (i, j) has number i * N + j: its rate stands at that place of a list of N * N rates (row by row, a row for each
@@ -47,9 +47,9 @@
 #include <stdint.h>
 
 /* The version of this header. The archive is of the same one if gambyre_version() == GAMBYRE_VERSION_NUMBER. */
-#define GAMBYRE_VERSION "0.14.0"
+#define GAMBYRE_VERSION "0.15.0"
 #define GAMBYRE_VERSION_MAJOR 0
-#define GAMBYRE_VERSION_MINOR 14
+#define GAMBYRE_VERSION_MINOR 15
 #define GAMBYRE_VERSION_PATCH 0
 #define GAMBYRE_VERSION_NUMBER (GAMBYRE_VERSION_MAJOR * 10000 + GAMBYRE_VERSION_MINOR * 100 + GAMBYRE_VERSION_PATCH)
 

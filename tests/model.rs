@@ -18,7 +18,7 @@ pub mod smoothness;
 pub mod switch;
 
 /// The version of the interface: major × 10,000 + minor × 100 + patch.
-pub const VERSION: u32 = 1_400;
+pub const VERSION: u32 = 1_500;
 
 pub use multiplexer::Multiplexer;
 pub use plan::Plan;

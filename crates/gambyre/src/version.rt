@@ -6,5 +6,5 @@ ghost use Rattle.gambyre.specs.Version.{versionNumber};
 pub extern "C" fn gambyre_version() -> u32
     ensures { λ r. ⌜ r ≡ versionNumber ⌝ }
 {
-    1400
+    1500
 }
