@@ -3,7 +3,7 @@
 
 use crate::clock::{batches, best_of, time, BATCH};
 use crate::ffi::Library;
-use crate::model::plan::{check_shape, column_sum, row_sum, MOST_PORTS};
+use crate::model::plan::{column_sum, row_sum, LONGEST_FRAME, MOST_PORTS};
 use crate::operations::{Model, Operations};
 use crate::workload::{scaled_plan, Workload};
 use std::hint::black_box;
@@ -45,7 +45,9 @@ fn model(ports: usize, frame: u32, period: u32, given: &[u16], rates: &mut [u16]
 #[inline(never)]
 fn sums_kept(ports: usize, frame: u32, period: u32, given: &[u16], rates: &mut [u16]) -> bool {
     let right = ports * ports;
-    if check_shape(ports, frame).is_err() || given.len() != right || rates.len() != right {
+    // Not by `check_shape`, with whose answer all of it takes 7 percent longer.
+    let shaped = (1..=MOST_PORTS).contains(&ports) && (1..=LONGEST_FRAME).contains(&frame);
+    if !shaped || given.len() != right || rates.len() != right {
         return false;
     }
     let (mut rows, mut columns) = ([0; MOST_PORTS], [0; MOST_PORTS]);
