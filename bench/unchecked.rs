@@ -7,7 +7,7 @@
 //! - it sorts each port's flows by rate once, so that a tie goes to the first of them;
 //! - it copies no record, and writes its answers where the caller wants them.
 
-use crate::model::plan::{MOST_FLOWS, MOST_PORTS};
+use crate::model::plan::{LONGEST_FRAME, MOST_FLOWS, MOST_PORTS};
 use crate::model::{Crosspoint, Multiplexer, Port, Queue, SlotAnswer, Switch};
 use std::cmp::Reverse;
 
@@ -38,6 +38,8 @@ struct Deadlines {
 
 /// Later than any slot, and behind the rank of any eligible flow.
 const NEVER: i16 = i16::MAX;
+
+const _: () = assert!(LONGEST_FRAME <= 1024, "a rank has 10 bits for a deadline");
 
 /// The smaller deadline has the lower rank, and of equal ones the lower place. An eligible flow's deadline is 1 to
 /// 1,024, so that both fit 14 bits; they are signed, since plain x86-64 has a vector minimum for these only.

@@ -11,7 +11,7 @@ mostPorts = 16
 abbrev pub mostFlows : ℕ
 mostFlows = mostPorts * mostPorts
 
--- "The frame length T is 1 to" so many "slots"
+-- "The frame length T is 1 to" so many "slots"; request L8 says how many
 abbrev pub mostSlots : ℕ
 mostSlots = 1024
 
