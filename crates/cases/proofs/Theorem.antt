@@ -32,4 +32,4 @@ use Rattle.cases.specs.Table.{Hold, table}
 
 pub cases-hold : Hold table
 unfolding runOf slotsOf slotsFrom loadVerdicts definedRun startOf startVerdict freshWith overlaid arriveOf arriveVerdict loadOf loadVerdict stepOf stepVerdict afterSlot takeoverOf validOf plansValid planValid flowsValid portsValid portValid depthInRange storeFits boardChoices headChoices choicesOf roomForAll roomFor movesOf boardMoves moveOf sendsOf headSends sendOf countsOf countsAfter clearedBelow countsAt chooseOf bestOf better eligible roundedUp scaleOf scaledOf boostOf boostVerdict boostedOf boostDiagonals diagonalIn boostDiagonal boostPlace columnOn listsOf acceptOf portsInRange frameInRange rowSum columnSum listBelow
-cases-hold = (refl, (refl, (refl, (refl, (refl, (refl, (refl, (refl, (refl, (refl, (refl, (refl, (refl, (refl, (refl, (refl, (refl, (refl, (refl, (refl, (refl, (refl, (refl, (refl, (refl, (refl, (refl, (refl, (refl, (refl, (refl, (refl, (refl, (refl, (refl, (refl, (refl, (refl, (refl, tt)))))))))))))))))))))))))))))))))))))))
+cases-hold = (refl, (refl, (refl, (refl, (refl, (refl, (refl, (refl, (refl, (refl, (refl, (refl, (refl, (refl, (refl, (refl, (refl, (refl, (refl, (refl, (refl, (refl, (refl, (refl, (refl, (refl, (refl, (refl, (refl, (refl, (refl, (refl, (refl, (refl, (refl, (refl, (refl, (refl, (refl, (refl, (refl, (refl, (refl, (refl, (refl, (refl, (refl, tt)))))))))))))))))))))))))))))))))))))))))))))))

@@ -1,2 +1,3 @@
 pub mod Look
 pub mod Table
+pub mod Reached

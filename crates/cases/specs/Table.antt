@@ -1,5 +1,6 @@
 -- "Cases with a star make up one table, proved of the specification by a single theorem". Each line has what the
--- definitions compute, and what the scope or a request (L3 to L5) says; its text of the case stands over it.
+-- definitions compute, and what the scope or a request (L3 to L5) says; its text of the case stands over it. Two runs more show
+-- that the shares of demand 3 are reached.
 use Prim.Native.Nat.{ℕ}
 use mathlib.Core.Path.{_≡_}
 use mathlib.Core.List.{List, [], _∷_, _++_}
@@ -138,6 +139,57 @@ l5 =
     ∷ (outputServes 0 0 l5Run is (0 ∷ 4 ∷ 6 ∷ 7 ∷ []))
     ∷ []
 
+-- The lower share is reached, so that 2 can't be 1: N = 2, T = 10, rows 4 6, 5 0, flow (0, 0) always waiting. In slots 4 to 8 no
+-- cell is sent, and 5 × 4 / 10 is 2.
+abbrev pub lowerRates : List ℕ
+lowerRates = row2 4 6 ++ row2 5 0
+
+-- the calls before these slots, in them, and behind them; a fifth cell comes so that one waits to the frame's end
+abbrev pub lowerBefore : List Call
+lowerBefore = fourCells 0 0 ++ replicate 4 (step own) ++ (arrive own 0 0 74 ∷ [])
+
+abbrev pub lowerStretch : List Call
+lowerStretch = replicate 5 (step own)
+
+abbrev pub lowerAfter : List Call
+lowerAfter = step own ∷ []
+
+abbrev pub lowerRun : List Event
+lowerRun = runOf 2 10 lowerRates (lowerBefore ++ lowerStretch ++ lowerAfter)
+
+abbrev pub lower : List Line
+lower =
+    (noneWaits 0 0 lowerRun is [])
+    ∷ (inputServes 0 0 lowerRun is (1 ∷ 3 ∷ 6 ∷ 8 ∷ []))
+    ∷ (outputServes 0 0 lowerRun is (1 ∷ 3 ∷ 5 ∷ 9 ∷ []))
+    ∷ (outputEmpty 0 0 lowerRun is (5 ∷ []))
+    ∷ []
+
+-- The upper share is reached: N = 2, T = 6, rows 2 0, 3 0, flow (0, 0) always waiting. In slots 1 to 3 two cells are sent, and
+-- 3 × 2 / 6 is 1.
+abbrev pub upperRates : List ℕ
+upperRates = row2 2 0 ++ row2 3 0
+
+abbrev pub upperBefore : List Call
+upperBefore = fourCells 0 0 ++ (step own ∷ [])
+
+abbrev pub upperStretch : List Call
+upperStretch = replicate 3 (step own)
+
+abbrev pub upperAfter : List Call
+upperAfter = replicate 2 (step own)
+
+abbrev pub upperRun : List Event
+upperRun = runOf 2 6 upperRates (upperBefore ++ upperStretch ++ upperAfter)
+
+abbrev pub upper : List Line
+upper =
+    (noneWaits 0 0 upperRun is [])
+    ∷ (inputServes 0 0 upperRun is (0 ∷ 3 ∷ []))
+    ∷ (outputServes 0 0 upperRun is (1 ∷ 3 ∷ []))
+    ∷ (outputEmpty 0 0 upperRun is [])
+    ∷ []
+
 -- C4* T = 10, demands 4 5 6, 3 5 5, 2 1 6: scaled 2 3 3, 2 3 2, 2 0 3.
 abbrev scaled : Outcome
 scaled = scaleOf 3 10 (row3 4 5 6 ++ row3 3 5 5 ++ row3 2 1 6) (replicate 9 0)
@@ -241,4 +293,4 @@ c9 =
     ∷ []
 
 abbrev pub table : List Line
-table = c1 ++ c2 ++ c3 ++ l4Ties ++ l4 ++ l5 ++ c4 ++ c5 ++ l3 ++ l3Last ++ c6 ++ c7 ++ c8 ++ c9
+table = c1 ++ c2 ++ c3 ++ l4Ties ++ l4 ++ l5 ++ lower ++ upper ++ c4 ++ c5 ++ l3 ++ l3Last ++ c6 ++ c7 ++ c8 ++ c9

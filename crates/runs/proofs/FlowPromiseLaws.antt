@@ -1,5 +1,5 @@
 -- From one event to every run: where each event keeps what is known of the switch, and each flow's books, the promise holds.
-use Prim.Native.Nat.{ℕ, _+_, _*_, _≤_}
+use Prim.Native.Nat.{ℕ, _+_, _*_, _<_, _≤_}
 use mathlib.Core.Path.{_≡_, ap, sym, subst, _∙_}
 use mathlib.Core.Logic.{⊎-elim}
 use mathlib.Core.List.{List, [], _∷_, _++_, append-assoc, append-nil}
@@ -7,14 +7,15 @@ use native.Mathlib.Nat.{le-mul-of-pos-right, zero-mul, zero-div}
 use native.Mathlib.Omega.{arith}
 use lib.ListN.{length, length-append}
 use Rattle.plan.specs.Lines.{flowOf}
+use Rattle.plan.proofs.BelowLaws.{lt-or-le}
 use Rattle.crossbar.specs.declared.state.Switch.{Switch}
 use Rattle.runs.specs.Event.{Event, stateAfter, storeAfter}
 use Rattle.runs.specs.Run.{Happens, Follow, finalState, finalStore}
 use Rattle.runs.specs.Flow.{collect, acceptedIn, movedIn, leftIn, accepted, moved, left, slots, NeverEmpty, HasRate, shareUp, shareDown}
 use Rattle.runs.specs.Promise.{pointCells, queueCells, Holds}
 use Rattle.runs.proofs.RunLaws.{collect-append, total-append, final-state-append, follow-append}
-use Rattle.runs.proofs.ShareLaws.{Near, share-at-most, share-at-least}
-use Rattle.runs.proofs.LedgerLaws.{headEmptyIn, held, byBoard, byHead, headServices, Ledger, ledger-none, ledger-append}
+use Rattle.runs.proofs.ShareLaws.{share-at-most, share-at-least, share-whole}
+use Rattle.runs.proofs.LedgerLaws.{held, byBoard, byHead, headServices, AtRest, NearEnds, Ledger, ledger-none, ledger-append}
 
 -- one event, for the flow (i, j) of a switch of n ports and frames of T slots
 pub record EventLaw (n T i j : ℕ) (s : Switch) (store : List ℕ) (e : Event) : Type 0 where
@@ -75,14 +76,12 @@ module _
           append-assoc,
         )
 
-    -- Stretches of a run that begins in s₀ with a store, where the flow has no cell and no service yet.
+    -- Stretches of a run that begins in s₀ with a store, where the flow has no cell yet.
     module _
         (s₀ : Switch)
         (store₀ : List ℕ)
         (sound : Sound s₀ store₀)
         (no-cell : held n T i j s₀ ≡ 0)
-        (no-board : byBoard n T i j s₀ ≡ 0)
-        (no-head : byHead n T i j s₀ ≡ 0)
         (es : List Event)
         (follow : Follow s₀ store₀ es)
       where
@@ -164,8 +163,8 @@ module _
           unfolding S
           at-most =
               ⊎-elim
-              (λ (p : (slots stretch ≡ 0) × (byHead n T i j upto ≡ byHead n T i j from) × (upto .slot ≡ from .slot)). omega (arith, at-rest (p .0) (p .1) (p .2)))
-              (λ (p : Near T a (byHead n T i j from) (from .slot) × Near T a (byHead n T i j upto) (upto .slot)).
+              (λ (p : AtRest n T i j from upto stretch). omega (arith, at-rest (p .0) (p .1) (p .2)))
+              (λ (p : NearEnds n T i j a from upto).
               omega (arith, share-at-most T a _ _ _ _ _ _ (books .share a rate) (p .0) (p .1)))
               (books .edges a rate)
 
@@ -173,29 +172,29 @@ module _
           unfolding S
           services-at-least =
               ⊎-elim
-              (λ (p : (slots stretch ≡ 0) × (byHead n T i j upto ≡ byHead n T i j from) × (upto .slot ≡ from .slot)).
-              rw (p .0, zero-mul, zero-div) (omega arith))
-              (λ (p : Near T a (byHead n T i j from) (from .slot) × Near T a (byHead n T i j upto) (upto .slot)).
+              (λ (p : AtRest n T i j from upto stretch). rw (p .0, zero-mul, zero-div) (omega arith))
+              (λ (p : NearEnds n T i j a from upto).
               share-at-least T a _ _ _ _ _ _ (books .share a rate) (p .0) (p .1))
               (books .edges a rate)
 
-          pub at-least : NeverEmpty i j stretch → shareDown (slots stretch) a T ≤ length (left i j stretch) + 3
+          -- where the board begins ahead, the head has not passed its share
+          services-whole : byHead n T i j from < byBoard n T i j from → shareDown (slots stretch) a T ≤ S
           unfolding S
-          at-least never = omega (arith, services-at-least, books .empties, never, known-from .board-ahead, known-upto .balanced)
+          services-whole ahead =
+              ⊎-elim
+              (λ (p : AtRest n T i j from upto stretch). rw (p .0, zero-mul, zero-div) (omega arith))
+              (λ (p : NearEnds n T i j a from upto).
+              let one : byBoard n T i j from ≡ byHead n T i j from + 1 = omega (arith, known-from .board-ahead) in
+              share-whole T a _ _ _ _ _ _ (books .share a rate) (p .0) (p .1) (omega (arith, p .2, ap (λ (x : ℕ). x * T) one)))
+              (books .edges a rate)
 
-          pub at-least-since-start : NeverEmpty i j (before ++ stretch) → shareDown (slots stretch) a T ≤ length (left i j stretch) + 2
-          unfolding S upto from
-          at-least-since-start never =
-              let all : Ledger n T i j s₀ (finalState (finalState s₀ before) stretch) (before ++ stretch) =
-              ledger-append n T i j before stretch (ledger-there before (stretch ++ after) cut) books in
-              omega (
-                arith,
-                services-at-least,
-                all .empties,
-                total-append (headEmptyIn i j) before stretch,
-                never,
-                no-cell,
-                no-board,
-                no-head,
-                known-upto .balanced,
-              )
+          -- The head is empty twice at most, and once at most where the board doesn't begin ahead.
+          pub at-least : NeverEmpty i j stretch → shareDown (slots stretch) a T ≤ length (left i j stretch) + 2
+          unfolding S
+          at-least never =
+              ⊎-elim
+              (λ (ahead : byHead n T i j from < byBoard n T i j from).
+              omega (arith, services-whole ahead, books .empties, never, known-from .board-ahead, known-upto .balanced))
+              (λ (level : byBoard n T i j from ≤ byHead n T i j from).
+              omega (arith, services-at-least, books .empties, never, known-upto .balanced))
+              (lt-or-le (byHead n T i j from) (byBoard n T i j from))

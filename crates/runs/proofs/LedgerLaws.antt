@@ -1,9 +1,10 @@
 -- What a list of events does to one flow (i, j), as sums that can be added up from event to event.
-use Prim.Native.Nat.{ℕ, _+_}
+use Prim.Native.Nat.{ℕ, _+_, _*_, _≤_}
 use mathlib.Core.Path.{_≡_, refl, ap, sym, _∙_}
 use mathlib.Core.Bool.{cond}
 use mathlib.Core.Logic.{_⊎_, inl, inr}
 use mathlib.Core.List.{List, [], _∷_, _++_, append-nil}
+use native.Mathlib.Nat.{mul-le-mul-right}
 use native.Mathlib.Omega.{arith}
 use lib.ListN.{length, length-append}
 use Rattle.plan.specs.Lines.{flowOf}
@@ -36,11 +37,16 @@ module _ (n T i j : ℕ) where
   abbrev pub headServices : List Event → ℕ
   headServices es = length (left i j es) + total (headEmptyIn i j) es
 
-  -- no slot passed, or the head is near its share at both ends
+  -- no slot passed
+  abbrev pub AtRest : Switch → Switch → List Event → Type 0
+  AtRest s s' es = (slots es ≡ 0) × (byHead s' ≡ byHead s) × (s' .slot ≡ s .slot) × (byBoard s ≤ byBoard s')
+
+  -- the head is near its share at both ends, and the board begins one ahead of its own at most
+  abbrev pub NearEnds : ℕ → Switch → Switch → Type 0
+  NearEnds a s s' = Near T a (byHead s) (s .slot) × Near T a (byHead s') (s' .slot) × (byBoard s * T ≤ s .slot * a + T)
+
   abbrev pub Edges : ℕ → Switch → Switch → List Event → Type 0
-  Edges a s s' es =
-      ((slots es ≡ 0) × (byHead s' ≡ byHead s) × (s' .slot ≡ s .slot))
-      ⊎ (Near T a (byHead s) (s .slot) × Near T a (byHead s') (s' .slot))
+  Edges a s s' es = AtRest s s' es ⊎ NearEnds a s s'
 
   -- from s to s' by these events
   pub record Ledger (s s' : Switch) (es : List Event) : Type 0 where
@@ -53,17 +59,19 @@ module _ (n T i j : ℕ) where
 
   pub ledger-none : (s : Switch) → Ledger s s []
   unfolding total collect
-  ledger-none s = record { cells = refl; empties = omega arith; share = λ a h. omega arith; edges = λ a h. inl (refl, refl, refl) }
+  ledger-none s = record { cells = refl; empties = omega arith; share = λ a h. omega arith; edges = λ a h. inl (refl, refl, refl, omega arith) }
 
   rate-append : (a : ℕ) (es fs : List Event) → HasRate i j a (es ++ fs) → HasRate i j a es × HasRate i j a fs
   rate-append a [] fs h = (tt, h)
   rate-append a (e ∷ es) fs h = let rest = rate-append a es fs (h .1) in ((h .0, rest .0), rest .1)
 
   edges-append : (a : ℕ) (s s' s'' : Switch) (es fs : List Event) → Edges a s s' es → Edges a s' s'' fs → Edges a s s'' (es ++ fs)
-  edges-append a s s' s'' es fs (inl (p, d, t)) (inl (q, d', t')) = inl (omega (arith, total-append slotsIn es fs), d' ∙ d, t' ∙ t)
-  edges-append a s s' s'' es fs (inl (p, d, t)) (inr (b, c)) = inr (rw (sym d, sym t) b, c)
-  edges-append a s s' s'' es fs (inr (b, c)) (inl (q, d', t')) = inr (b, rw (d', t') c)
-  edges-append a s s' s'' es fs (inr (b, c)) (inr (b', c')) = inr (b, c')
+  edges-append a s s' s'' es fs (inl (p, d, t, c)) (inl (q, d', t', c')) =
+      inl (omega (arith, total-append slotsIn es fs), d' ∙ d, t' ∙ t, omega (arith, c, c'))
+  edges-append a s s' s'' es fs (inl (p, d, t, c)) (inr (begin, end, board)) =
+      inr (rw (sym d, sym t) begin, end, omega (arith, board, mul-le-mul-right T c, ap (λ (x : ℕ). x * a) t))
+  edges-append a s s' s'' es fs (inr (begin, end, board)) (inl (q, d', t', c')) = inr (begin, rw (d', t') end, board)
+  edges-append a s s' s'' es fs (inr (begin, end, board)) (inr (begin', end', board')) = inr (begin, end', board)
 
   pub ledger-append : {s s' s'' : Switch} (es fs : List Event) → Ledger s s' es → Ledger s' s'' fs → Ledger s s'' (es ++ fs)
   ledger-append {s} {s'} {s''} es fs l m =
@@ -93,5 +101,5 @@ module _ (n T i j : ℕ) where
         share = λ a _.
             rw (d, t, n, h, out)
             (omega arith);
-        edges = λ a _. inl (omega arith, d, t);
+        edges = λ a _. inl (omega arith, d, t, omega (arith, c));
       }

@@ -31,3 +31,9 @@ module _ (T a S l d₀ t₀ d₁ t₁ : ℕ) (share : Share T a S l d₀ t₀ d�
   share-at-least =
       let close : shareDown l a T * T < (S + 2) * T = omega (arith, div-mul-le-self (l * a) T, begin .early, end .late) in
       omega (arith, lt-of-mul-lt-mul-right T {m = shareDown l a T} {n = S + 2} close)
+
+  -- begun where the share was not yet passed, no service is missing
+  pub share-whole : d₀ * T ≤ t₀ * a → shareDown l a T ≤ S
+  share-whole behind =
+      let close : shareDown l a T * T < (S + 1) * T = omega (arith, div-mul-le-self (l * a) T, behind, end .late) in
+      omega (arith, lt-of-mul-lt-mul-right T {m = shareDown l a T} {n = S + 1} close)

@@ -13,7 +13,7 @@ use Rattle.multiplexer.proofs.PacedLaws.{paced-start}
 use Rattle.multiplexer.proofs.PortLaws.{row-length, row-fits, column-length, column-fits}
 use Rattle.side.specs.Choices.{noMultiplexer}
 use Rattle.fabric.specs.Flow.{noQueue, noPoint}
-use Rattle.crossbar.specs.State.{queueAt, pointAt, boardCount, headCount}
+use Rattle.crossbar.specs.State.{queueAt, pointAt, headCount}
 use Rattle.crossbar.specs.Start.{emptyQueue, emptyPoint, restedPort, freshWith, planOf, CanStart}
 use Rattle.fabric.specs.declared.flow.Crosspoint.{Crosspoint}
 use Rattle.crossbar.specs.declared.state.Switch.{Switch}
@@ -39,16 +39,9 @@ module _ (n t : ℕ) (rates : List ℕ) (depth : ℕ) (store : List ℕ) (ok : C
   port-is : (p : ℕ) → p < n → getD (replicate mostPorts restedPort) p noMultiplexer ≡ restedPort
   port-is p h = getD-replicate mostPorts p restedPort noMultiplexer (omega (arith, ok .plan .few-ports))
 
-  no-service : (p f : ℕ) → p < n → f < n → getD (getD (replicate mostPorts restedPort) p noMultiplexer .served) f 0 ≡ 0
-  no-service p f hp hf = rw (port-is p hp) (getD-replicate mostPorts f 0 0 (omega (arith, ok .plan .few-ports)))
-
-  pub board-zero : (i j : ℕ) → i < n → j < n → boardCount fresh i j ≡ 0
+  head-zero : (i j : ℕ) → i < n → j < n → headCount fresh i j ≡ 0
   unfolding freshWith
-  board-zero i j hi hj = no-service i j hi hj
-
-  pub head-zero : (i j : ℕ) → i < n → j < n → headCount fresh i j ≡ 0
-  unfolding freshWith
-  head-zero i j hi hj = no-service j i hj hi
+  head-zero i j hi hj = rw (port-is j hj) (getD-replicate mostPorts i 0 0 (omega (arith, ok .plan .few-ports)))
 
   rested : (m : ℕ) → m ≡ n → FrameStart (replicate mostPorts 0) m
   rested m e = record { full = length-replicate {A = ℕ} mostPorts 0; zeros = λ f l. getD-replicate mostPorts f 0 0 (omega (arith, ok .plan .few-ports)) }

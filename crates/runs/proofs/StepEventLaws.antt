@@ -27,7 +27,7 @@ use Rattle.runs.specs.Event.Event.{stepped}
 use Rattle.runs.specs.Run.{OtherLength, answered}
 use Rattle.runs.specs.Flow.{collect, total, left, moved, leftIn, movedIn}
 use Rattle.runs.proofs.LedgerLaws.{Ledger}
-use Rattle.runs.proofs.SoundLaws.{Sound, head-near}
+use Rattle.runs.proofs.SoundLaws.{Sound, board-near, head-near}
 use Rattle.runs.proofs.SlotLaws.{slot-room, slot-cells, slot-crossing, slot-empties, slot-share, slot-near}
 use Rattle.runs.proofs.StepLaws.{flow-slot, slot-sound, has-room}
 use Rattle.runs.proofs.TakeoverLaws.{OtherPlan, takeover-sound}
@@ -58,7 +58,7 @@ module _ {u : Switch} {store : List ℕ} (ok : Sound u store) (lent : Lent) (i j
         cells = omega (arith, out, into, slot-cells f);
         empties = omega (arith, slot-empties f);
         share = λ a rate. rw (out, sym (rate .0 refl)) (omega (arith, slot-share f));
-        edges = λ a rate. rw (sym (rate .0 refl)) (inr (head-near ok i j hi hj, slot-near f));
+        edges = λ a rate. rw (sym (rate .0 refl)) (inr (head-near ok i j hi hj, slot-near f, omega (arith, board-near ok i j hi hj .early)));
       }
 
   slot-law : EventLaw (u .running .ports) (u .running .frame) i j u store e

@@ -9,7 +9,7 @@ use Rattle.refusal.specs.declared.Verdict.{Verdict}
 use Rattle.refusal.specs.declared.Verdict.the-variants.{Accepted}
 use Rattle.plan.specs.Lines.{flowOf}
 use Rattle.plan.specs.Below.{listBelow}
-use Rattle.crossbar.specs.State.{queueAt, pointAt, boardCount, headCount}
+use Rattle.crossbar.specs.State.{queueAt, pointAt}
 use Rattle.plan.specs.NoPlan.{noPlan}
 use Rattle.crossbar.specs.Start.{emptyPoint, emptyQueue, freshWith, planOf, startVerdict, startOf, CanStart}
 use Rattle.fabric.specs.declared.flow.Crosspoint.{Crosspoint}
@@ -19,13 +19,13 @@ use Rattle.crossbar.specs.declared.state.Switch.{Switch}
 use Rattle.crossbar.proofs.StartLaws.{can-start}
 use Rattle.runs.specs.Event.{Event, stateAfter, storeAfter}
 use Rattle.runs.specs.Run.{Run, Happens, Follow, finalState, finalStore, definedRun, callsOf}
-use Rattle.runs.specs.Flow.{accepted, moved, left}
+use Rattle.runs.specs.Flow.{accepted, moved, left, slots, boardEmptyIn, NeverEmpty, HasRate, shareUp, shareDown}
 use Rattle.runs.specs.Promise.{pointCells, queueCells, FlowPromise, Promise}
-use Rattle.runs.proofs.RunLaws.{follow-defined, follow-append}
+use Rattle.runs.proofs.RunLaws.{total-append, follow-defined, follow-append}
 use Rattle.runs.proofs.SoundLaws.{Sound, ahead-between, two-between}
-use Rattle.runs.proofs.StartLaws.{sound-start, point-is, queue-is, board-zero, head-zero}
+use Rattle.runs.proofs.StartLaws.{sound-start, point-is, queue-is}
 use Rattle.runs.proofs.CallLaws.{Keeps, event-keeps}
-use Rattle.runs.proofs.FlowPromiseLaws.{EventLaw, FlowState, holds-between, holds-midway, crossing-run, queue-run, at-most, at-least, at-least-since-start}
+use Rattle.runs.proofs.FlowPromiseLaws.{EventLaw, FlowState, holds-between, holds-midway, crossing-run, queue-run, at-most, at-least}
 
 module _ (run : Run) where
   abbrev n : ℕ
@@ -102,12 +102,6 @@ module _ (run : Run) where
     no-queue : queueAt s₀ (flowOf n i j) ≡ emptyQueue
     no-queue = subst (λ (s : Switch). queueAt s (flowOf n i j) ≡ emptyQueue) (sym begins) (queue-is n T (run .rates) (run .depth) (run .store) start-facts i j hi hj)
 
-    no-board : boardCount s₀ i j ≡ 0
-    no-board = subst (λ (s : Switch). boardCount s i j ≡ 0) (sym begins) (board-zero n T (run .rates) (run .depth) (run .store) start-facts i j hi hj)
-
-    no-head : headCount s₀ i j ≡ 0
-    no-head = subst (λ (s : Switch). headCount s i j ≡ 0) (sym begins) (head-zero n T (run .rates) (run .depth) (run .store) start-facts i j hi hj)
-
     some-slot : 1 ≤ T
     some-slot = start-facts .plan .some-slot
 
@@ -121,20 +115,30 @@ module _ (run : Run) where
     unfolding listBelow
     no-queue-cells = ap (listBelow _) (ap (λ (q : Queue). q .count) no-queue)
 
+    -- Both shares of a stretch, from which the promise's fields follow by arithmetic.
+    module _ (before stretch after : List Event) (a : ℕ) (cut : run .events ≡ before ++ (stretch ++ after)) (rate : HasRate i j a stretch) where
+      upper : length (left i j stretch) ≤ shareUp (slots stretch) a T + 1
+      upper = at-most n T i j some-slot Known keeps knows law s₀ (run .store) known-start none-held (run .events) (run .follow) before stretch after a cut rate
+
+      lower : NeverEmpty i j stretch → shareDown (slots stretch) a T ≤ length (left i j stretch) + 2
+      lower = at-least n T i j some-slot Known keeps knows law s₀ (run .store) known-start none-held (run .events) (run .follow) before stretch after a cut rate
+
     flow-promise : FlowPromise run i j
     flow-promise =
         record {
-          midway = holds-midway n T i j some-slot Known keeps knows law s₀ (run .store) known-start none-held no-board no-head (run .events) (run .follow);
-          between = holds-between n T i j some-slot Known keeps knows law s₀ (run .store) known-start none-held no-board no-head (run .events) (run .follow);
+          midway = holds-midway n T i j some-slot Known keeps knows law s₀ (run .store) known-start none-held (run .events) (run .follow);
+          between = holds-between n T i j some-slot Known keeps knows law s₀ (run .store) known-start none-held (run .events) (run .follow);
           crossing =
               subst (λ (l : List ℕ). l ++ moved i j (run .events) ≡ left i j (run .events) ++ pointCells (finalState s₀ (run .events)) (flowOf n i j)) no-point-cells
               (crossing-run n T i j some-slot Known keeps knows law s₀ (run .store) (run .events) known-start (run .follow));
           queue =
               subst (λ (l : List ℕ). l ++ accepted i j (run .events) ≡ moved i j (run .events) ++ queueCells (finalState s₀ (run .events)) (finalStore (run .store) (run .events)) (flowOf n i j)) no-queue-cells
               (queue-run n T i j some-slot Known keeps knows law s₀ (run .store) (run .events) known-start (run .follow));
-          at-most = at-most n T i j some-slot Known keeps knows law s₀ (run .store) known-start none-held no-board no-head (run .events) (run .follow);
-          at-least = at-least n T i j some-slot Known keeps knows law s₀ (run .store) known-start none-held no-board no-head (run .events) (run .follow);
-          at-least-since-start = at-least-since-start n T i j some-slot Known keeps knows law s₀ (run .store) known-start none-held no-board no-head (run .events) (run .follow);
+          at-most = λ before stretch after a cut rate. omega (arith, upper before stretch after a cut rate);
+          at-least = λ before stretch after a cut rate never. omega (arith, lower before stretch after a cut rate never);
+          at-least-since-start = λ before stretch after a cut rate never.
+              omega (arith, lower before stretch after a cut rate (omega (arith, never, total-append (boardEmptyIn i j) before stretch)));
+          two-short-at-most = λ before stretch after a cut rate never. omega (arith, lower before stretch after a cut rate never);
         }
 
 pub every-run : (run : Run) → Promise run

@@ -56,6 +56,9 @@ pub record FlowPromise (run : Run) (i j : ℕ) : Type 0 where
   -- "and if it never does from the run's start to the stretch's end, sent plus 2"
   pub at-least-since-start : (before stretch after : List Event) (a : ℕ) → run .events ≡ before ++ (stretch ++ after) → HasRate i j a stretch
       → NeverEmpty i j (before ++ stretch) → shareDown (slots stretch) a (run .frame) ≤ length (left i j stretch) + 2
+  -- Stronger than these two, which the scope asks for: plus 2 is enough in every stretch, whatever was before it.
+  pub two-short-at-most : (before stretch after : List Event) (a : ℕ) → run .events ≡ before ++ (stretch ++ after) → HasRate i j a stretch
+      → NeverEmpty i j stretch → shareDown (slots stretch) a (run .frame) ≤ length (left i j stretch) + 2
 
 pub record Promise (run : Run) : Type 0 where
   -- "each call's answer, and the state and store after it, are the same as theirs": an event holds all three
