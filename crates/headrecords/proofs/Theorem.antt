@@ -151,8 +151,9 @@ module _ (run : Run) (rates : List ℕ) (j : ℕ) (hj : j < run .ports) where
 
 pub records-of-every-run : (run : Run) → RecordPromise run
 records-of-every-run run before stretch after cut start rates one j hj =
+    let begun : finalState (run .reply .state) before .slot ≡ 0 = omega (arith, start) in
     record {
-      whole = whole run rates j hj before stretch after cut start one;
-      made = made run rates j hj before stretch after cut start one;
-      smooth = smooth run rates j hj before stretch after cut start one;
+      whole = whole run rates j hj before stretch after cut begun one;
+      made = made run rates j hj before stretch after cut begun one;
+      smooth = smooth run rates j hj before stretch after cut begun one;
     }

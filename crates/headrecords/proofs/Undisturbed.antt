@@ -3,6 +3,7 @@ use Prim.Native.Nat.{ℕ}
 use mathlib.Core.Path.{_≡_, refl, ap, sym, subst, _∙_}
 use mathlib.Core.List.{List, [], _∷_, _++_, append-assoc, append-nil}
 use native.Mathlib.Decide.{ℕ-discrete}
+use native.Mathlib.Omega.{arith}
 use Rattle.refusal.specs.declared.Verdict.{Verdict}
 use Rattle.refusal.specs.declared.Verdict.the-variants.{Accepted, Refused}
 use Rattle.refusal.proofs.ChainLaws.{refused-not-accepted}
@@ -88,6 +89,6 @@ module _ (run : Run) (none : NoLoad (run .events)) where
 
 pub undisturbed-runs : (run : Run) → UndisturbedPromise run
 undisturbed-runs run none j hj =
-    records-of-every-run run [] (run .events) [] (sym (append-nil (run .events))) (starts-a-frame run none) (run .rates)
+    records-of-every-run run [] (run .events) [] (sym (append-nil (run .events))) (omega (arith, starts-a-frame run none)) (run .rates)
     (one-plan run none [] (run .events) refl (first-runs run none))
     j hj
