@@ -1,1 +1,2 @@
 pub mod RoomLaws
+pub mod TableLaws

@@ -11,8 +11,6 @@ use Rattle.multiplexer.specs.Deadlines.{tableFrame, TableRule, readAt, r
 use Rattle.multiplexer.specs.declared.Choice.{Choice}
 use Rattle.multiplexer.specs.declared.Choice.the-variants.{Idle, Flow}
 use Rattle.multiplexer.proofs.ChoiceLaws.{eligible-true, best-is}
-use Rattle.multiplexer.proofs.Table.{table}
-use Rattle.multiplexer.proofs.TableLaws.{table-rule}
 
 module _ (entries : List ℕ) (rule : TableRule entries) (rs ks : List ℕ) (t : ℕ) (in-table : InTable rs t) where
   abbrev may : ℕ → Bool
@@ -47,6 +45,6 @@ module _ (entries : List ℕ) (rule : TableRule entries) (rs ks : List ℕ) (t :
 
 -- "With T = 64 the choice reads the table and agrees with the formula choice for all rates to 64, counts to the rate and slots
 -- to 63."
-pub table-agrees : Agrees table
+pub table-agrees : (table : List ℕ) → TableRule table → Agrees table
 unfolding chooseOf
-table-agrees rs ks t in-table = agree table table-rule rs ks t in-table (flowsOf rs) (omega arith)
+table-agrees table rule rs ks t in-table = agree table rule rs ks t in-table (flowsOf rs) (omega arith)

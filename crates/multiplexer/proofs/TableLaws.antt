@@ -1,4 +1,4 @@
--- The rule of the table of deadlines: one test over all of its entries, which is computed, and what it tells of each.
+-- The rule of the table of deadlines: one test over all of its entries, and what it tells of each.
 use Prim.Native.Nat.{ℕ, zero, suc, _+_, _-_, _*_, _/_, _^_, _<_, _≤_}
 use mathlib.Core.Path.{_≡_, refl, sym, ap, _∙_}
 use mathlib.Core.Bool.{Bool, true, _&&_}
@@ -7,13 +7,11 @@ use mathlib.Core.List.{List, [], _∷_}
 use native.Mathlib.Nat.{mul-le-mul}
 use native.Mathlib.Omega.{arith}
 use lib.Dec.{eqb}
-use lib.ListN.{length, getD, take, drop}
+use lib.ListN.{length, getD}
 use borrow.Author.Tests.{eqb-true}
-use lib.Seq.{getD-take, getD-drop}
 use Rattle.plan.proofs.BelowLaws.{lt-or-le, and-true}
 use Rattle.multiplexer.specs.Choose.{roundedUp}
 use Rattle.multiplexer.specs.Deadlines.{tableFrame, entriesBefore, placeOf, TableRule}
-use Rattle.multiplexer.proofs.Table.{table}
 
 -- the entry of rate a and service s is x
 abbrev isEntry : ℕ → ℕ → ℕ → Bool
@@ -24,11 +22,6 @@ abbrev right : ℕ → ℕ → ℕ → List ℕ → Bool
 right a m s [] = true
 right a zero s (x ∷ xs) = isEntry a s x && right (suc a) a 1 xs
 right a (suc m) s (x ∷ xs) = isEntry a s x && right a m (suc s) xs
-
--- the one test over the whole table
-tested : right 1 0 1 table ≡ true
-unfolding table roundedUp
-tested = refl
 
 -- the entries of smaller rates come before
 before-mono : (a b : ℕ) → a ≤ b → entriesBefore a ≤ entriesBefore b
@@ -66,12 +59,14 @@ module _ (b r : ℕ) (r1 : 1 ≤ r) (rb : r ≤ b) where
   right-at (x ∷ xs) a (suc m) s (suc p) s1 e t place l =
       right-at xs a m (suc s) p (omega arith) (omega arith) (and-true (isEntry a s x) (right a m (suc s) xs) t .1) (omega arith) (omega arith)
 
-pub table-rule : TableRule table
-unfolding table
-table-rule =
+-- one test over the whole table, which antt computes, and its length
+pub rule-tested : (table : List ℕ) → right 1 0 1 table ≡ true → length table ≡ entriesBefore (suc tableFrame) → TableRule table
+rule-tested table tested full =
     record {
-      full = refl;
-      entry = λ a s a1 a64 s1 sa. right-at a s s1 sa table 1 0 1 (placeOf a s) (omega arith) (omega arith) tested (omega arith) (omega (arith, before-mono (suc a) (suc tableFrame) (omega arith)));
+      full = full;
+      entry = λ a s a1 a64 s1 sa.
+          right-at a s s1 sa table 1 0 1 (placeOf a s) (omega arith) (omega arith) tested (omega arith)
+          (omega (arith, full, before-mono (suc a) (suc tableFrame) (omega arith)));
     }
 
 -- the code finds the entries before a rate by a product
@@ -86,32 +81,17 @@ half-product (suc a) = let e : suc a - 1 ≡ a = omega arith in rw e (omega (ari
 pub before-small : (a : ℕ) → a ≤ tableFrame → entriesBefore a ≤ 2016
 before-small a a64 = before-mono a tableFrame a64
 
--- The entry at place p of the table is that of rate a and service s, and it is in the constant that has `len` entries from
--- place `base` on.
-pub record Found (base len p a s : ℕ) : Type 0 where
-  pub from : base ≤ p
-  pub below : p - base < len
-  pub is : getD (take len (drop base table)) (p - base) 0 ≡ roundedUp (s * tableFrame) a
+-- The entry at place p of the table is that of rate a and service s.
+pub record Found (table : List ℕ) (p a s : ℕ) : Type 0 where
+  pub below : p < length table
+  pub is : getD table p 0 ≡ roundedUp (s * tableFrame) a
 
--- the rates from lo to hi have such a constant
-pub found : (lo hi base len : ℕ) → entriesBefore lo ≡ base → entriesBefore (suc hi) ≡ base + len → (a s p : ℕ) → lo ≤ a → a ≤ hi → a ≤ tableFrame
-    → 1 ≤ s → s ≤ a → p ≡ placeOf a s → Found base len p a s
-found lo hi base len begins ends a s p la ah a64 s1 sa place =
+pub found : {table : List ℕ} → TableRule table → (a s p : ℕ) → a ≤ tableFrame → 1 ≤ s → s ≤ a → p ≡ placeOf a s → Found table p a s
+found {table} rule a s p a64 s1 sa place =
     record {
-      from = from;
-      below = below;
-      is =
-          getD-take len (drop base table) (p - base) 0 below
-          ∙ getD-drop base table (p - base) 0
-          ∙ ap (λ (q : ℕ). getD table q 0) (omega (arith, from, place))
-          ∙ table-rule .entry a s (omega arith) a64 s1 sa;
+      below = omega (arith, rule .full, place, before-mono (suc a) (suc tableFrame) (omega arith));
+      is = ap (λ (q : ℕ). getD table q 0) place ∙ rule .entry a s (omega arith) a64 s1 sa;
     }
-  where
-    from : base ≤ p
-    from = omega (arith, begins, place, before-mono lo a la)
-
-    below : p - base < len
-    below = omega (arith, from, ends, place, before-mono (suc a) (suc hi) (omega arith))
 
 -- before slot 64, a flow that has had all its services is not eligible, and one with rate 0 is not either
 pub all-served : (a k t : ℕ) → t < tableFrame → a ≤ k → (a ≡ 0) ⊎ (t * a < k * tableFrame)

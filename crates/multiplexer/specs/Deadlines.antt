@@ -28,6 +28,10 @@ pub record TableRule (table : List ℕ) : Type 0 where
   pub full : length table ≡ entriesBefore (suc tableFrame)
   pub entry : (a s : ℕ) → 1 ≤ a → a ≤ tableFrame → 1 ≤ s → s ≤ a → getD table (placeOf a s) 0 ≡ roundedUp (s * tableFrame) a
 
+-- For the code, which is lent the table in the frames that it is for. In others it may be lent any list, and reads nothing.
+abbrev pub ReadIn : ℕ → List ℕ → Type 0
+ReadIn frame table = frame ≡ tableFrame → TableRule table
+
 -- the deadline of flow f, which was served k times: that of service number k + 1, as the table has it
 abbrev pub readAt : List ℕ → List ℕ → List ℕ → ℕ → ℕ
 readAt table rs ks f = getD table (placeOf (rateAt rs f) (getD ks f 0 + 1)) 0

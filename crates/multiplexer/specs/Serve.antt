@@ -15,8 +15,10 @@ use Rattle.multiplexer.specs.declared.Served.{Served}
 abbrev pub portAfter : ℕ → Bool → Choice → Multiplexer → Multiplexer
 portAfter n ends choice m = cond ends (endFrameOf (countOf m choice) n) (countOf m choice)
 
+-- a port of n flows after a slot with this choice, and the choice
+abbrev pub servedWith : Multiplexer → Choice → ℕ → ℕ → ℕ → Served
+servedWith m c n frame slot = record { port = portAfter n (eqb (slot + 1) frame) c m; choice = c }
+
 -- the port with these rates after a slot, and its choice
 abbrev pub serveOf : Multiplexer → List ℕ → ℕ → ℕ → Served
-serveOf m rates frame slot =
-    let c = chooseOf rates (m .served) frame slot in
-    record { port = portAfter (length rates) (eqb (slot + 1) frame) c m; choice = c }
+serveOf m rates frame slot = servedWith m (chooseOf rates (m .served) frame slot) (length rates) frame slot

@@ -1,52 +1,47 @@
 // The deadlines of frames of 64 slots, which are read and not divided for: for rates a from 1 to 64, and services s from 1 to
-// a of each, s × 64 / a rounded up, in the order in which the program `deadlines` prints them. There is a constant for each
-// eight rates, since the compiler builds a constant anew wherever it is read: all 2,080 numbers would cost more than the
-// divisions (docs/PERFORMANCE.md).
-ghost use mathlib.Core.Path.{_≡_};
-ghost use Prim.Native.Nat.{_*_, _≤_};
-ghost use Rattle.multiplexer.specs.Choose.{roundedUp};
-ghost use Rattle.multiplexer.specs.Deadlines.{tableFrame};
+// a of each, s × 64 / a rounded up, in the order in which the program `deadlines` prints them.
+ghost use Rattle.multiplexer.specs.Deadlines.{TableRule};
 
-const RATES_1_TO_8: [u8; 36] = [
-    64,
-    32,
-    64,
-    22,
-    43,
-    64,
-    16,
-    32,
-    48,
-    64,
-    13,
-    26,
-    39,
-    52,
-    64,
-    11,
-    22,
-    32,
-    43,
-    54,
-    64,
-    10,
-    19,
-    28,
-    37,
-    46,
-    55,
-    64,
-    8,
-    16,
-    24,
-    32,
-    40,
-    48,
-    56,
-    64,
-];
+// How many there are: one for each service of each rate.
+pub const ENTRIES: usize = 2080;
 
-const RATES_9_TO_16: [u8; 100] = [
+const DEADLINES: [u8; ENTRIES] = [
+    64,
+    32,
+    64,
+    22,
+    43,
+    64,
+    16,
+    32,
+    48,
+    64,
+    13,
+    26,
+    39,
+    52,
+    64,
+    11,
+    22,
+    32,
+    43,
+    54,
+    64,
+    10,
+    19,
+    28,
+    37,
+    46,
+    55,
+    64,
+    8,
+    16,
+    24,
+    32,
+    40,
+    48,
+    56,
+    64,
     8,
     15,
     22,
@@ -147,9 +142,6 @@ const RATES_9_TO_16: [u8; 100] = [
     56,
     60,
     64,
-];
-
-const RATES_17_TO_24: [u8; 164] = [
     4,
     8,
     12,
@@ -314,9 +306,6 @@ const RATES_17_TO_24: [u8; 164] = [
     59,
     62,
     64,
-];
-
-const RATES_25_TO_32: [u8; 228] = [
     3,
     6,
     8,
@@ -545,9 +534,6 @@ const RATES_25_TO_32: [u8; 228] = [
     60,
     62,
     64,
-];
-
-const RATES_33_TO_40: [u8; 292] = [
     2,
     4,
     6,
@@ -840,9 +826,6 @@ const RATES_33_TO_40: [u8; 292] = [
     61,
     63,
     64,
-];
-
-const RATES_41_TO_48: [u8; 356] = [
     2,
     4,
     5,
@@ -1199,9 +1182,6 @@ const RATES_41_TO_48: [u8; 356] = [
     62,
     63,
     64,
-];
-
-const RATES_49_TO_56: [u8; 420] = [
     2,
     3,
     4,
@@ -1622,9 +1602,6 @@ const RATES_49_TO_56: [u8; 420] = [
     62,
     63,
     64,
-];
-
-const RATES_57_TO_64: [u8; 484] = [
     2,
     3,
     4,
@@ -2111,34 +2088,10 @@ const RATES_57_TO_64: [u8; 484] = [
     64,
 ];
 
-// The deadline of service number `service` of a flow with this rate.
-pub fn read_deadline(rate: u16, service: u16) -> u8
-    requires { ⌜ (1 ≤ service) × (service ≤ rate) × (rate ≤ tableFrame) ⌝ }
-    ensures { λ r. ⌜ r ≡ roundedUp (service * tableFrame) rate ⌝ }
+// The table. The compiler builds it anew wherever it is asked for, so that one is had for as many choices as can share it
+// (docs/PERFORMANCE.md).
+pub fn deadline_table() -> [u8; ENTRIES]
+    ensures { λ r. ⌜ TableRule r ⌝ }
 {
-    let a = rate as usize;
-    // the table has those of all smaller rates before it, and a constant those from the place that is taken off
-    let place = (a * (a - 1) >> 1) + (service as usize - 1);
-    if rate <= 8 {
-        return RATES_1_TO_8[place];
-    }
-    if rate <= 16 {
-        return RATES_9_TO_16[place - 36];
-    }
-    if rate <= 24 {
-        return RATES_17_TO_24[place - 136];
-    }
-    if rate <= 32 {
-        return RATES_25_TO_32[place - 300];
-    }
-    if rate <= 40 {
-        return RATES_33_TO_40[place - 528];
-    }
-    if rate <= 48 {
-        return RATES_41_TO_48[place - 820];
-    }
-    if rate <= 56 {
-        return RATES_49_TO_56[place - 1176];
-    }
-    RATES_57_TO_64[place - 1596]
+    DEADLINES
 }

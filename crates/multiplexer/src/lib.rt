@@ -1,17 +1,18 @@
 // One port's multiplexer: which flow a slot goes to, and how often each flow was served in this frame.
 ghost use mathlib.Core.Path.{_≡_};
 ghost use mathlib.Core.Bool.{cond};
-ghost use Prim.Native.Nat.{_+_, _<_, _≤_, min};
+ghost use Prim.Native.Nat.{_+_, _*_, _<_, _≤_, min};
 ghost use lib.Dec.{eqb};
 ghost use Rattle.plan.specs.Range.{mostPorts};
-ghost use Rattle.multiplexer.specs.Choose.{chooseOf};
+ghost use Rattle.multiplexer.specs.Choose.{roundedUp, chooseOf};
 ghost use Rattle.multiplexer.specs.Count.{oneMore, countOf, endFrameOf};
 ghost use Rattle.multiplexer.specs.Candidate.{never, rankOf, Soonest, orFlow, choiceOf};
-ghost use Rattle.multiplexer.specs.Serve.{serveOf};
-use crate::deadlines::read_deadline;
+ghost use Rattle.multiplexer.specs.Deadlines.{tableFrame, TableRule, ReadIn};
+ghost use Rattle.multiplexer.specs.Serve.{servedWith, serveOf};
+use crate::deadlines::deadline_table;
 use plan::range::MOST_PORTS;
 
-mod deadlines;
+pub mod deadlines;
 mod valid;
 
 // How many slots the frames have that there is a table of deadlines for, and its highest rate.
@@ -92,16 +93,27 @@ fn soonest_divided(rate: u16, served: u16, frame: u32, slot: u32) -> u64
     deadline
 }
 
+// The deadline of service number `service` of a flow with this rate, out of the table.
+fn read_deadline(table: &[u8], rate: u16, service: u16) -> u8
+    requires { ⌜ TableRule (now table) × (1 ≤ service) × (service ≤ rate) × (rate ≤ tableFrame) ⌝ }
+    ensures { λ r. ⌜ r ≡ roundedUp (service * tableFrame) rate ⌝ }
+{
+    let a = rate as usize;
+    // the table has those of all smaller rates before it
+    table[(a * (a - 1) >> 1) + (service as usize - 1)]
+}
+
 // The flow's deadline, or NEVER where it is not eligible: in a frame of 64 slots by the table, otherwise by the formula. Before
 // slot 64 a flow that has had all its services, or has rate 0, is not eligible, and the table has nothing of it.
-fn soonest(rate: u16, served: u16, frame: u32, slot: u32) -> u64
+fn soonest(rate: u16, served: u16, frame: u32, slot: u32, table: &[u8]) -> u64
+    requires { ⌜ ReadIn frame (now table) ⌝ }
     ensures { λ r. ⌜ Soonest rate served frame slot r ⌝ }
 {
     if (frame == TABLE_FRAME) & (slot < TABLE_FRAME) & (rate as u32 <= TABLE_FRAME) {
         if rate <= served {
             return NEVER;
         }
-        let deadline = read_deadline(rate, served + 1);
+        let deadline = read_deadline(table, rate, served + 1);
         if slot * (rate as u32) < (served as u32) * TABLE_FRAME {
             return NEVER;
         }
@@ -157,8 +169,9 @@ fn one_more(count: u16, g: u16, flow: u16) -> u16
 }
 
 impl Multiplexer {
-    // The number of the flow that `choose` chooses, or NO_FLOW.
-    fn best(self, rates: &[u16], frame: u32, slot: u32) -> u16
+    // The number of the flow that `choose` chooses, or NO_FLOW, with the table of deadlines lent.
+    fn best(self, rates: &[u16], frame: u32, slot: u32, table: &[u8]) -> u16
+        requires { ⌜ ReadIn frame (now table) ⌝ }
         ensures { λ r. ⌜ choiceOf r ≡ chooseOf (now (rates .entry)) (self .served) frame slot ⌝ }
     {
         let served = self.served;
@@ -170,9 +183,20 @@ impl Multiplexer {
         };
         for f in 0..n {
             let rate = rates[f];
-            best = best.or_flow(f as u16, soonest(rate, served[f], frame, slot), rate);
+            best = best.or_flow(f as u16, soonest(rate, served[f], frame, slot, table), rate);
         }
         best.flow
+    }
+
+    // The same without a table, which is made where the frame has one.
+    fn chosen(self, rates: &[u16], frame: u32, slot: u32) -> u16
+        ensures { λ r. ⌜ choiceOf r ≡ chooseOf (now (rates .entry)) (self .served) frame slot ⌝ }
+    {
+        if frame == TABLE_FRAME {
+            let table = deadline_table();
+            return self.best(rates, frame, slot, &table);
+        }
+        self.best(rates, frame, slot, b"")
     }
 
     // The eligible flow with the smallest deadline, of equals the one with the largest rate, of equals the lowest. Only the
@@ -180,7 +204,7 @@ impl Multiplexer {
     pub fn choose(self, rates: &[u16], frame: u32, slot: u32) -> Choice
         ensures { λ r. ⌜ r ≡ chooseOf (now (rates .entry)) (self .served) frame slot ⌝ }
     {
-        choice_of(self.best(rates, frame, slot))
+        choice_of(self.chosen(rates, frame, slot))
     }
 
     // One service more for the flow of this number. All counts are made anew: a processor stalls where one is written and
@@ -220,17 +244,17 @@ impl Multiplexer {
         Multiplexer { served }
     }
 
-    // One slot of the port: it chooses, counts the service and, in the last slot of a frame, goes back to 0.
-    pub fn serve(self, rates: &[u16], frame: u32, slot: u32) -> Served
-        ensures { λ r. ⌜ r ≡ serveOf self (now (rates .entry)) frame slot ⌝ }
+    // The port after a slot that went to `flow`: the service is counted and, in the last slot of a frame of n flows, the counts
+    // go back to 0.
+    fn after(self, flow: u16, n: usize, frame: u32, slot: u32) -> Served
+        ensures { λ r. ⌜ r ≡ servedWith self (choiceOf flow) n frame slot ⌝ }
     {
-        let flow = self.best(rates, frame, slot);
         // counted before the choice is made of it, so that no jump depends on whether the port idles
         let counted = self.counted(flow);
         let choice = choice_of(flow);
         if slot as u64 + 1 == frame as u64 {
             return Served {
-                port: counted.end_frame(rates.len()),
+                port: counted.end_frame(n),
                 choice,
             };
         }
@@ -238,5 +262,25 @@ impl Multiplexer {
             port: counted,
             choice,
         }
+    }
+
+    // One slot of the port: it chooses, counts the service and, in the last slot of a frame, goes back to 0.
+    pub fn serve(self, rates: &[u16], frame: u32, slot: u32) -> Served
+        ensures { λ r. ⌜ r ≡ serveOf self (now (rates .entry)) frame slot ⌝ }
+    {
+        self.after(self.chosen(rates, frame, slot), rates.len(), frame, slot)
+    }
+
+    // The same with the table of deadlines lent, which the ports of a side share.
+    pub fn serve_with(self, rates: &[u16], frame: u32, slot: u32, table: &[u8]) -> Served
+        requires { ⌜ TableRule (now table) ⌝ }
+        ensures { λ r. ⌜ r ≡ serveOf self (now (rates .entry)) frame slot ⌝ }
+    {
+        self.after(
+            self.best(rates, frame, slot, table),
+            rates.len(),
+            frame,
+            slot,
+        )
     }
 }

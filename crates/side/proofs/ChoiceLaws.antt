@@ -70,21 +70,21 @@ module _ (line : ℕ → List ℕ) (ports : List Multiplexer) (t slot : ℕ) whe
   -- the ports below m have had their slot; those from m up are as they were
   pub record ServedBelow (m : ℕ) (s : Side) : Type 0 where
     pub so-far : ServedAs line ports t slot m s
-    pub full : length (s .ports) ≡ length ports
+    pub full : length (s .ports) ≡ mostPorts
     pub later : (p : ℕ) → m ≤ p → getD (s .ports) p noMultiplexer ≡ getD ports p noMultiplexer
 
-  pub served-none : ServedBelow 0 (record { ports = ports; turns = replicate mostPorts noTurn })
+  pub served-none : length ports ≡ mostPorts → ServedBelow 0 (record { ports = ports; turns = replicate mostPorts noTurn })
   unfolding choicesOf
-  served-none =
+  served-none full =
       record {
         so-far = record { choices = turns-idle mostPorts; served = λ p l. absurd (omega arith) };
-        full = refl;
+        full = full;
         later = λ p l. refl;
       }
 
   -- one port more
   module _ (m : ℕ) (s : Side) (before : ServedBelow m s) (rates : List ℕ) (r : Served) (turn : Turn)
-      (small : m < length (s .ports)) (rules : rates ≡ line m) (is : r ≡ serveOf (getD (s .ports) m noMultiplexer) rates t slot) (says : choiceOf turn ≡ r .choice)
+      (small : m < mostPorts) (rules : rates ≡ line m) (is : r ≡ serveOf (getD (s .ports) m noMultiplexer) rates t slot) (says : choiceOf turn ≡ r .choice)
     where
       own : r ≡ serveOf (getD ports m noMultiplexer) (line m) t slot
       own = is ∙ (rw (rules, before .later m (omega arith)) refl)
@@ -99,7 +99,7 @@ module _ (line : ℕ → List ℕ) (ports : List Multiplexer) (t slot : ℕ) whe
                   served = λ p l.
                       ⊎-elim
                       (λ (b : p < m). getD-set-other (s .ports) m p (r .port) noMultiplexer (λ e. omega arith) ∙ before .so-far .served p b)
-                      (λ (e : p ≡ m). rw (e, getD-set-same (s .ports) m (r .port) noMultiplexer small, own) refl)
+                      (λ (e : p ≡ m). rw (e, getD-set-same (s .ports) m (r .port) noMultiplexer (omega (arith, before .full)), own) refl)
                       (below-or-last p m (omega arith));
                 };
             full = length-set (s .ports) m (r .port) ∙ before .full;

@@ -6,6 +6,7 @@ ghost use Rattle.plan.specs.Desk.{deskOf};
 ghost use Rattle.side.specs.Choices.{ChoosesPort, choiceOf, ServedAs};
 use multiplexer::Choice;
 use multiplexer::Multiplexer;
+use multiplexer::deadlines::deadline_table;
 use plan::desk::desk_view;
 use plan::range::MOST_PORTS;
 
@@ -59,9 +60,11 @@ pub fn serve_all<'a>(
         ports: ports,
         turns: idle,
     };
+    let entries = deadline_table();
+    let table: &[u8] = &entries;
     for p in 0..n {
         let port = side.ports[p];
-        let served = port.serve(desk_view(running, waiting, n, p, takeover), t, slot);
+        let served = port.serve_with(desk_view(running, waiting, n, p, takeover), t, slot, table);
         let after = served.port;
         let choice = served.choice;
         let turn = turn_of(choice);

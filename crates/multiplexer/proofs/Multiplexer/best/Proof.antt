@@ -13,10 +13,10 @@ use Rattle.multiplexer.proofs.Multiplexer.best.Statement.{statement}
 use Rattle.multiplexer.proofs.Multiplexer.best.Tie as tie
 
 abbrev Inv-loop : tie.InvT-loop
-Inv-loop rates frame slot served n best₀ f₀ best f = (f ≤ n) × Kept rates served frame best (bestOf rates served frame slot f)
+Inv-loop rates frame slot table served n best₀ f₀ best f = (f ≤ n) × Kept rates served frame best (bestOf rates served frame slot f)
 
 abbrev μ-loop : tie.MeasureT-loop
-μ-loop rates frame slot served n best₀ f₀ best f = n - f
+μ-loop rates frame slot table served n best₀ f₀ best f = n - f
 
 flows-requires : tie.Need-flows-requires Inv-loop μ-loop
 flows-requires c κs = search needs
@@ -26,7 +26,7 @@ rank-requires c κs = search needs
 
 loop-holds : tie.Need-loop-holds Inv-loop μ-loop
 unfolding bestOf
-loop-holds c = let a = c .before .before .before .before .args in (omega arith, rw (c .rank .ensures) (kept-none (now (a .rates)) (a .self .served) (a .frame)))
+loop-holds c = let a = c .before .before .before .before .before .args in (omega arith, rw (c .rank .ensures) (kept-none (now (a .rates)) (a .self .served) (a .frame)))
 
 mul-rate : tie.Need-mul-rate Inv-loop μ-loop
 mul-rate c = search needs
@@ -59,7 +59,7 @@ loop-again : tie.Need-loop-again Inv-loop μ-loop
 unfolding bestOf
 loop-again c =
     let loop = c .before .before .before .before .loop in
-    let a = c .before .before .before .before .before .before .before .before .before .args in
+    let a = c .before .before .before .before .before .before .before .before .before .before .args in
     let so-far = bestOf (now (a .rates)) (a .self .served) (a .frame) (a .slot) (loop .f) in
     let next = kept-next (now (a .rates)) (a .self .served) (a .frame) (loop .f) _ (loop .best) so-far (loop .inv .1) (a .slot) (c .before .soonest .ensures) in
     (omega arith, rw (c .or-flow .ensures, add-one) next)
@@ -68,7 +68,7 @@ returns : tie.Need-returns Inv-loop μ-loop
 unfolding chooseOf
 returns c =
     let loop = c .before .loop in
-    let a = c .before .before .before .before .before .before .args in
+    let a = c .before .before .before .before .before .before .before .args in
     let n = c .before .before .before .flows in
     let e : loop .f ≡ n .result = omega arith in
     ap (λ (b : Candidate). choiceOf (b .flow)) (loop .inv .1 .is)

@@ -1,43 +1,22 @@
 use borrow.Author.Needs.{needs}
-use Prim.Native.Nat.{_+_}
-use mathlib.Core.Path.{_≡_, ap, _∙_}
-use native.Mathlib.Omega.{arith}
+use mathlib.Core.Path.{ap, _∙_}
 use lib.ListN.{length}
 use denote.Ref.{now}
-use borrow.Author.Tests.{eq-eqb, ne-eqb}
-use Rattle.multiplexer.specs.Count.{endFrameOf}
-use Rattle.multiplexer.specs.declared.Multiplexer.{Multiplexer}
+use Rattle.multiplexer.specs.Serve.{servedWith}
+use Rattle.multiplexer.specs.declared.Choice.{Choice}
 use Rattle.multiplexer.proofs.Multiplexer.serve.Statement.{statement}
 use Rattle.multiplexer.proofs.Multiplexer.serve.Tie as tie
 
-best-requires : tie.Need-best-requires
-best-requires c κs = search needs
+chosen-requires : tie.Need-chosen-requires
+chosen-requires c κs = search needs
 
-counted-requires : tie.Need-counted-requires
-counted-requires c κs = search needs
-
-choice-of-requires : tie.Need-choice-of-requires
-choice-of-requires c κs = search needs
-
-add-if1 : tie.Need-add-if1
-add-if1 c = search needs
-
-end-frame-requires : tie.Need-end-frame-requires
-end-frame-requires c κs = search needs
+after-requires : tie.Need-after-requires
+after-requires c κs = search needs
 
 returns : tie.Need-returns
 returns c =
-    let a = c .before .before .before .before .before .before .args in
-    let last : a .slot + 1 ≡ a .frame = omega arith in
-    let port = c .end-frame .ensures ∙ ap (λ (m : Multiplexer). endFrameOf m (length (now (a .rates)))) (c .before .before .before .counted .ensures) in
-    simp (eq-eqb (a .slot + 1) (a .frame) last) (cc)
-
-returns-2 : tie.Need-returns-2
-returns-2 c =
-    let a = c .before .before .before .before .before .args in
-    simp (ne-eqb (a .slot + 1) (a .frame) (λ e. omega arith)) (cc)
+    let a = c .before .before .before .args in
+    c .after .ensures ∙ ap (λ (x : Choice). servedWith (a .self) x (length (now (a .rates))) (a .frame) (a .slot)) (c .before .chosen .ensures)
 
 pub serve-spec : {M : Type 1} → statement M
-serve-spec =
-    tie.close
-    (tie.spec best-requires counted-requires choice-of-requires add-if1 end-frame-requires returns returns-2)
+serve-spec = tie.close (tie.spec chosen-requires after-requires returns)
