@@ -37,6 +37,7 @@ hosts() {
     for source in "${examples[@]}"; do
         diff "$source.txt" "$out/${source##*/}.txt" || fail "the printout of $source.c as $standard by $compiler $*"
     done
+    [ "$(tail -n 1 "$out/header.txt")" = "$lists lists were NULL" ] || fail "the header has $lists lists: $(tail -n 1 "$out/header.txt")"
 }
 
 # stops TEXT FLAG..: gcc refuses the program on standard input, and says the text.
@@ -69,6 +70,9 @@ awk '
     }
     END { if (fields == 0) exit 1 }
 ' include/gambyre.h >"$out/offsets.c" || fail "the offsets can't be read from the header"
+
+# The list parameters of all calls: each has its length behind it.
+lists=$(grep -o '\bsize_t [a-z]*_len\b' include/gambyre.h | wc -l)
 
 alone gcc c c99 c11 c17
 alone g++ c++ c++11 c++17

@@ -10,6 +10,7 @@ pub fn all<S: Operations>() {
     ties::<S>();
     c3_one_cell::<S>();
     l4_two_cells::<S>();
+    shares_reached::<S>();
     c4_scale::<S>();
     c5_boost::<S>();
     last_periods::<S>();
@@ -72,6 +73,19 @@ pub fn l4_two_cells<S: Operations>() {
     assert_eq!(followed.head_slots, [1, 3, 7], "L4");
     assert_eq!(followed.empty_slots, [3], "L4");
     assert_eq!(followed.held, [0, 0, 0, 0, 1, 1, 2, 1, 1], "L4");
+}
+
+/// Both shares of demand 3 are reached: in slots 4 to 8 of the first no cell is sent, where 5 × 4 / 10 is 2, and in slots 1 to 3
+/// of the second two are, where 3 × 2 / 6 is 1.
+pub fn shares_reached<S: Operations>() {
+    let lower = Followed::frame::<S>(2, 10, &[4, 6, 5, 0], 0, 0);
+    assert_eq!(lower.board_slots, [1, 3, 6, 8], "lower share");
+    assert_eq!(lower.head_slots, [1, 3, 5, 9], "lower share");
+    assert_eq!(lower.empty_slots, [5], "lower share");
+    let upper = Followed::frame::<S>(2, 6, &[2, 0, 3, 0], 0, 0);
+    assert_eq!(upper.board_slots, [0, 3], "upper share");
+    assert_eq!(upper.head_slots, [1, 3], "upper share");
+    assert!(upper.empty_slots.is_empty(), "upper share");
 }
 
 /// The services of one flow that always has a cell waiting, and the cells in its crosspoint after each slot of a frame.

@@ -5,6 +5,7 @@ pub mod calls;
 pub mod choices;
 pub mod covers;
 pub mod guarded;
+pub mod halves;
 pub mod handmade;
 pub mod inputs;
 pub mod plans;

@@ -4,9 +4,10 @@
 //!     target/compare [slots] [seed]
 //!
 //! Five parts: the cases of the scope on the library, every operation on edge and random inputs, the meter on
-//! records made for it, hand-made states, and random runs until at least that many slots were compared. Each part ends
-//! at its first difference. The program exits with 1 if a part found one, or if a refusal, a branch, or a kind of text
-//! or record was never reached.
+//! records made for it, hand-made states, and random runs until at least that many slots were compared. The runs are in two
+//! halves, which go side by side with the other parts and with each other, and share no run. Each part, and each half, ends
+//! at its first difference. The program exits with 1 if one was found, if the halves share a run, or if something that the
+//! tally demands, a refusal, a branch or a kind of text or record among it, was not met as often as it should be.
 
 mod cases;
 mod check;
@@ -14,11 +15,13 @@ mod ffi;
 mod model;
 mod operations;
 
+use check::halves::{seeds, shared, HALVES};
 use check::random::Random;
 use check::tally::Tally;
 use check::{covers, inputs, runs, states};
 use ffi::Library;
 use std::process::ExitCode;
+use std::thread;
 use std::time::{Instant, SystemTime, UNIX_EPOCH};
 
 const SLOTS: u64 = 10_000_000;
@@ -26,9 +29,19 @@ const INPUT_ROUNDS: usize = 5_000;
 const COVER_ROUNDS: usize = 10_000;
 const STATE_ROUNDS: usize = 1_500;
 
-type Part = fn(slots: u64, seed: u64, tally: &mut Tally) -> Result<(), String>;
-const PARTS: [(&str, Part); 5] =
-    [("cases", all_cases), ("inputs", all_inputs), ("covers", all_covers), ("states", all_states), ("runs", all_runs)];
+type Part = fn(seed: u64, tally: &mut Tally) -> Result<(), String>;
+const PARTS: [(&str, Part); 4] =
+    [("cases", all_cases), ("inputs", all_inputs), ("covers", all_covers), ("states", all_states)];
+
+/// What was compared side by side with the others.
+#[derive(Default)]
+struct Compared {
+    tally: Tally,
+    /// The seeds of its runs.
+    seeds: Vec<u64>,
+    /// The names of what found a difference.
+    differing: Vec<String>,
+}
 
 fn main() -> ExitCode {
     let mut numbers = std::env::args().skip(1).map(|argument| argument.parse::<u64>());
@@ -43,34 +56,50 @@ fn main() -> ExitCode {
     };
     println!("compare: {slots} slots, seed {seed}");
     let begun = Instant::now();
-    let mut tally = Tally::default();
-    let mut differing = Vec::new();
-    for (part, compare) in PARTS {
-        match compare(slots, seed, &mut tally) {
-            Ok(()) => println!("{part}: no difference"),
-            Err(difference) => {
-                println!("{part}: DIFFERENCE, {difference}");
-                differing.push(part);
-            }
+    let (parts, halves) = thread::scope(|scope| {
+        let halves = [0, 1].map(|half| scope.spawn(move || half_of_runs(half, (slots + half) / HALVES, seed)));
+        (all_parts(seed), halves.map(|half| half.join().expect("a half tells what it found")))
+    });
+    match told(slots, parts, halves) {
+        Ok(counts) => {
+            println!("no difference: {counts}; seed {seed}, {} s", begun.elapsed().as_secs());
+            ExitCode::SUCCESS
+        }
+        Err(what) => {
+            println!("{what}; to see it again: compare {slots} {seed}");
+            ExitCode::FAILURE
         }
     }
-    if !differing.is_empty() {
-        println!(
-            "the library and the model differ in {}; to see it again: compare {slots} {seed}",
-            differing.join(", ")
-        );
-        return ExitCode::FAILURE;
-    }
-    let missing = tally.report();
-    if !missing.is_empty() {
-        println!("never reached: {}", missing.join(", "));
-        return ExitCode::FAILURE;
-    }
-    println!("no difference: {}; seed {seed}, {} s", told_counts(&tally), begun.elapsed().as_secs());
-    ExitCode::SUCCESS
 }
 
-fn told_counts(tally: &Tally) -> String {
+/// What all have found together: the counts, or what is wrong.
+fn told(slots: u64, parts: Compared, halves: [Compared; HALVES as usize]) -> Result<String, String> {
+    for (half, Compared { seeds, .. }) in halves.iter().enumerate() {
+        if let [first, .., last] | [first @ last] = seeds[..] {
+            println!("half {half} of the runs: {} of them, of seeds {first} to {last}, {HALVES} apart", seeds.len());
+        }
+    }
+    let both = shared(&halves[0].seeds, &halves[1].seeds);
+    let mut tally = parts.tally;
+    let mut differing = parts.differing;
+    for half in halves {
+        tally.add(&half.tally);
+        differing.extend(half.differing);
+    }
+    if !differing.is_empty() {
+        return Err(format!("the library and the model differ in {}", differing.join(", ")));
+    }
+    if !both.is_empty() {
+        return Err(format!("the halves share the runs of seeds {both:?}"));
+    }
+    let missing = tally.report(slots);
+    if !missing.is_empty() {
+        return Err(format!("not met as often as it should be: {}", missing.join(", ")));
+    }
+    Ok(counts(&tally))
+}
+
+fn counts(tally: &Tally) -> String {
     let Tally { slots, calls, runs, states, inputs, texts, covers, recorded, .. } = tally;
     [
         format!("{slots} slots and {calls} calls in {runs} runs"),
@@ -81,35 +110,62 @@ fn told_counts(tally: &Tally) -> String {
     .join(", ")
 }
 
-fn all_cases(_slots: u64, _seed: u64, _tally: &mut Tally) -> Result<(), String> {
-    std::panic::catch_unwind(cases::all::<Library>).map_err(|_| "a case of the scope fails, see above".to_string())
-}
-
-fn all_inputs(_slots: u64, seed: u64, tally: &mut Tally) -> Result<(), String> {
-    inputs::compare::<Library>(INPUT_ROUNDS, &mut Random::new(seed), tally)
-}
-
-fn all_covers(_slots: u64, seed: u64, tally: &mut Tally) -> Result<(), String> {
-    covers::compare::<Library>(COVER_ROUNDS, &mut Random::new(seed), tally)
-}
-
-fn all_states(_slots: u64, seed: u64, tally: &mut Tally) -> Result<(), String> {
-    states::compare::<Library>(STATE_ROUNDS, &mut Random::new(seed), tally)
+/// All but the runs.
+fn all_parts(seed: u64) -> Compared {
+    let mut compared = Compared::default();
+    for (part, compare) in PARTS {
+        let outcome = compare(seed, &mut compared.tally);
+        compared.end(part, outcome);
+    }
+    compared
 }
 
 /// Run after run, each with its own seed.
-fn all_runs(slots: u64, seed: u64, tally: &mut Tally) -> Result<(), String> {
-    let mut run_seed = seed;
-    let mut told = 0;
-    while tally.slots < slots {
-        if tally.slots >= told {
-            println!("{} slots agree, next the run of seed {run_seed}", tally.slots);
-            told += slots.div_ceil(10);
+fn half_of_runs(half: u64, slots: u64, seed: u64) -> Compared {
+    let mut compared = Compared::default();
+    let mut outcome = Ok(());
+    let mut printed = 0;
+    for run_seed in seeds(seed, half) {
+        if compared.tally.slots >= slots || outcome.is_err() {
+            break;
         }
-        runs::random_run::<Library>(run_seed, tally).map_err(|failure| failure.to_string())?;
-        run_seed = run_seed.wrapping_add(1);
+        if compared.tally.slots >= printed {
+            println!("half {half} of the runs: {} slots agree, next the run of seed {run_seed}", compared.tally.slots);
+            printed += slots.div_ceil(5);
+        }
+        outcome = runs::random_run::<Library>(run_seed, &mut compared.tally).map_err(|failure| failure.to_string());
+        compared.seeds.push(run_seed);
     }
-    Ok(())
+    compared.end(&format!("half {half} of the runs"), outcome);
+    compared
+}
+
+impl Compared {
+    fn end(&mut self, name: &str, outcome: Result<(), String>) {
+        match outcome {
+            Ok(()) => println!("{name}: no difference"),
+            Err(difference) => {
+                println!("{name}: DIFFERENCE, {difference}");
+                self.differing.push(name.to_string());
+            }
+        }
+    }
+}
+
+fn all_cases(_seed: u64, _tally: &mut Tally) -> Result<(), String> {
+    std::panic::catch_unwind(cases::all::<Library>).map_err(|_| "a case of the scope fails, see above".to_string())
+}
+
+fn all_inputs(seed: u64, tally: &mut Tally) -> Result<(), String> {
+    inputs::compare::<Library>(INPUT_ROUNDS, &mut Random::new(seed), tally)
+}
+
+fn all_covers(seed: u64, tally: &mut Tally) -> Result<(), String> {
+    covers::compare::<Library>(COVER_ROUNDS, &mut Random::new(seed), tally)
+}
+
+fn all_states(seed: u64, tally: &mut Tally) -> Result<(), String> {
+    states::compare::<Library>(STATE_ROUNDS, &mut Random::new(seed), tally)
 }
 
 fn seed_of_the_clock() -> u64 {

@@ -28,6 +28,9 @@ plans=(examples/**/*.lsp)
 for plan in "${plans[@]}"; do
     same "$plan" cat "${plan%.lsp}.txt" <"$plan"
 done
+# There is a refused plan file for each number that a file can get.
+numbers=$(for plan in examples/refused/*.lsp; do cat "${plan%.lsp}.txt"; done | sed -n 's/^refused //p' | sort -nu | tr '\n' ' ')
+[ "$numbers" = "1 2 4 5 14 15 " ] || fail "examples/refused/ has files for these numbers: $numbers"
 in_pieces examples/three_boards.lsp | same "a plan in two pieces" cat examples/three_boards.txt
 
 full_plan | same "the plan with all lines full" full_printout

@@ -1,14 +1,15 @@
 #!/usr/bin/env bash
 # The comparison put to the test: it has to catch each of these wrong versions of the switch. Each is the
 # model with one edit, built as the stand-in for the proved library; the near misses of the scope come first.
-# The unedited stand-in has to pass. With -v all that the comparison printed is shown.
+# The unedited stand-in has to pass. With -v all that the comparison printed is shown. It takes some twenty minutes, and no gate
+# runs it.
 set -euo pipefail
 cd "$(dirname "$0")/.."
 build=target/mutants
 failed=0
 verbose=${1:-}
 
-# try NAME FILE SED-EDIT
+# try NAME FILE SED-EDIT [SLOTS]
 try() {
     rm -rf "$build" && mkdir -p "$build/lib" && cp -r tests "$build/tests"
     sed -i "$3" "$build/tests/model/$2"
@@ -18,7 +19,7 @@ try() {
     rustc --edition 2021 -O --crate-type staticlib "$build/tests/standin.rs" -o "$build/lib/libgambyre.a"
     rustc --edition 2021 -O tests/compare.rs -L "$build/lib" -o "$build/compare"
     status=0
-    "$build/compare" 100000 1 > "$build/out" 2>&1 || status=$?
+    "$build/compare" "${4:-100000}" 1 > "$build/out" 2>&1 || status=$?
     if [ "$1" = unedited ]; then want=0; else want=1; fi
     if [ $((status != 0)) = $want ]; then echo "ok, $1:"; else echo "WRONG, $1:"; failed=1; fi
     if [ "$verbose" = -v ]; then sed 's/^/    /' "$build/out"; else echo "    $(tail -n 1 "$build/out")"; fi
@@ -32,6 +33,16 @@ try "the larger rate before the smaller deadline" multiplexer.rs 's/place < firs
 try "deadlines compared before rounding up" multiplexer.rs 's/((served + 1) \* frame).div_ceil(rate)/((served + 1) * frame << 24) \/ rate/'
 try "one deadline of 64 slots is a slot late" multiplexer.rs 's/div_ceil(rate);/&\n            let deadline = if (frame, rate, served) == (64, 37, 20) { deadline + 1 } else { deadline };/'
 try "deadlines of 64 slots by the count" multiplexer.rs 's/div_ceil(rate);/&\n            let deadline = if frame == 64 \&\& rate <= 64 \&\& served > 0 { (served * frame).div_ceil(rate) } else { deadline };/'
+try "one deadline of 64 slots is a slot late in a step, and not in a choice" switch.rs 's/\.choose(\(.*\), plan\.frame, self\.slot)/.misread(\1, plan.frame, self.slot)/
+    $ a impl Multiplexer {\
+        fn misread(&self, rates: &[u16], frame: u32, slot: u32) -> Option<usize> {\
+            let due = |flow: usize| (u32::from(self.served[flow]) + 1) * frame;\
+            let may = |flow: usize| rates[flow] > 0 \&\& due(flow) - frame <= slot * u32::from(rates[flow]);\
+            let late = |flow: usize| u32::from((frame, rates[flow], self.served[flow]) == (64, 37, 20));\
+            let rank = |flow: usize| (due(flow).div_ceil(u32::from(rates[flow])) + late(flow), std::cmp::Reverse(rates[flow]));\
+            (0..rates.len()).filter(|\&flow| may(flow)).min_by_key(|\&flow| rank(flow))\
+        }\
+    }' 1000000
 try "rate 65 read from the table" multiplexer.rs 's/div_ceil(rate);/&\n            let deadline = if frame == 64 \&\& rate == 65 { ((served + 1) * frame).div_ceil(64) } else { deadline };/'
 try "the table read at T = 65" multiplexer.rs 's/div_ceil(rate);/&\n            let deadline = if frame == 65 \&\& rate <= 64 { ((served + 1) * 64).div_ceil(rate) } else { deadline };/'
 try "sending before moving" switch.rs 's/self.move_cells(&choices, store, &mut answer);/SWAP/; s/self.send_cells(&choices, &mut answer);/self.move_cells(\&choices, store, \&mut answer);/; s/SWAP/self.send_cells(\&choices, \&mut answer);/'

@@ -1,9 +1,8 @@
 #!/usr/bin/env bash
 # The tests beside the proofs: the programs on plan files and texts, the table of deadlines, the model's test of itself,
-# installing the library, the header and the examples in C and C++, and the comparison of the proved library with the model, on
-# each processor half of it.
-# Usage: tests/run.sh [SLOTS [SEED]], how many slots are compared, and where the random numbers of the two halves begin: with
-# SEED and with the next number.
+# installing the library, the header and the examples in C and C++, and the comparison of the proved library with the model,
+# which takes several processors by itself.
+# Usage: tests/run.sh [SLOTS [SEED]], how many slots are compared, and the seed of the first run.
 set -euo pipefail
 cd "$(dirname "$0")/.."
 slots=${1:-10000000}
@@ -54,7 +53,5 @@ beside library library
 programs
 joined
 
-beside compare target/compare $((slots / 2)) "$seed"
 bash tests/c.sh
-target/compare $((slots - slots / 2)) $((seed + 1))
-joined
+target/compare "$slots" "$seed"

@@ -12,6 +12,7 @@ mod operations;
 
 use check::choices::judge;
 use check::covers::edges::EDGES;
+use check::halves::{seeds, shared};
 use check::random::Random;
 use check::recorded;
 use check::share::Share;
@@ -101,7 +102,7 @@ fn texts_that_break_a_rule() {
 
 #[test]
 fn what_was_never_reached_is_named() {
-    let missing: BTreeSet<String> = Tally::default().report().into_iter().collect();
+    let missing: BTreeSet<String> = Tally::default().report(0).into_iter().collect();
     assert!(missing.contains("16 text breaks a rule"));
     assert!(FAULTS.iter().all(|(fault, _, _)| missing.contains(*fault)));
     assert!(EDGES.iter().all(|(edge, _)| missing.contains(*edge)));
@@ -112,6 +113,33 @@ fn what_was_never_reached_is_named() {
     );
     let names: BTreeSet<&str> = FAULTS.iter().map(|fault| fault.0).chain(SOUND.iter().map(|sound| sound.0)).collect();
     assert_eq!(names.len(), FAULTS.len() + SOUND.len(), "one name for two kinds of text");
+}
+
+/// The halves have seeds of their own, wherever they begin, and a seed that both have is found.
+#[test]
+fn halves_share_no_run() {
+    for first in [0, 5, u64::MAX - 7] {
+        let [one, other] = [0, 1].map(|half| seeds(first, half).take(1_000).collect::<Vec<u64>>());
+        assert_eq!(shared(&one, &other), Vec::<u64>::new());
+        let both: BTreeSet<u64> = one.iter().chain(&other).copied().collect();
+        assert_eq!(both, (0..2_000).map(|turn| first.wrapping_add(turn)).collect());
+        assert_eq!(shared(&one, &seeds(first + 6, 0).take(2).collect::<Vec<u64>>()).len(), 2);
+    }
+}
+
+#[test]
+fn counts_are_added_up() {
+    let [mut sum, mut one, mut other] = [0; 3].map(|_| Tally::default());
+    for tally in [&mut one, &mut sum] {
+        runs::random_run::<Model>(1, tally).map_err(|failure| failure.to_string()).unwrap();
+        inputs::compare::<Model>(1, &mut Random::new(1), tally).unwrap();
+    }
+    for tally in [&mut other, &mut sum] {
+        covers::compare::<Model>(1, &mut Random::new(1), tally).unwrap();
+        states::compare::<Model>(1, &mut Random::new(1), tally).unwrap();
+    }
+    one.add(&other);
+    assert_eq!(one, sum);
 }
 
 #[test]
@@ -126,7 +154,7 @@ fn by_value_and_in_place_agree() {
     inputs::compare::<Model>(100, &mut random, &mut tally).unwrap();
     covers::compare::<Model>(100, &mut random, &mut tally).unwrap();
     states::compare::<Model>(50, &mut random, &mut tally).unwrap();
-    assert_eq!(tally.report(), Vec::<String>::new());
+    assert_eq!(tally.report(tally.slots), Vec::<String>::new());
 }
 
 /// T = 4, rates 1 1 2: of the choices in slots 0 to 2 one each is right, and each wrong one is wrong for its own reason.
@@ -251,7 +279,7 @@ fn random_slots(random: &mut Random, frame: u64) -> Vec<Slot> {
     (0..length).map(slot).collect()
 }
 
-/// Both bounds over each stretch, as the scope has them.
+/// Both bounds over each stretch; the lower one as it is proved, which is more than the scope asks.
 fn shares_hold(frame: u64, slots: &[Slot]) -> bool {
     for first in 0..slots.len() {
         for end in first + 1..=slots.len() {
@@ -262,11 +290,8 @@ fn shares_hold(frame: u64, slots: &[Slot]) -> bool {
             }
             let sent = stretch.iter().filter(|slot| slot.head_sent).count() as u64;
             let services = stretch.len() as u64 * rate;
-            let fed = |slots: &[Slot]| slots.iter().all(|slot| !slot.board_empty);
-            if sent > services.div_ceil(frame) + 1
-                || fed(stretch) && sent + 3 < services / frame
-                || fed(&slots[..end]) && sent + 2 < services / frame
-            {
+            let fed = stretch.iter().all(|slot| !slot.board_empty);
+            if sent > services.div_ceil(frame) + 1 || fed && sent + 2 < services / frame {
                 return false;
             }
         }

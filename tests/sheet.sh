@@ -56,6 +56,11 @@ for text in "${texts[@]}"; do
     esac
 done
 
+# There is a refused text for each reason that README.md names.
+for reason in header_line semicolons space byte_order_mark lf_alone empty_line row_too_many trailing_commas row_above_frame column_above_frame; do
+    [ -e "examples/refused/$reason.csv" ] || fail "examples/refused/ has no $reason.csv"
+done
+
 text=examples/three_boards.csv
 plan=examples/three_boards.lsp
 in_pieces "$text" | accepted "a text in two pieces" "$plan" 3 15

@@ -30,7 +30,7 @@ need "package grep" grep
 need "package diffutils" diff cmp
 need "package findutils" find
 need "package coreutils" cat chmod comm cp date head install mkdir mktemp od readlink realpath rm sha256sum sleep sort stat \
-    tail tee wc
+    tail tee tr wc
 
 # The oldest rustc that has all that the tests use is 1.73.
 if has rustc && ! [[ $(rustc --version) =~ ^rustc\ 1\.(7[3-9]|[89][0-9]|[1-9][0-9][0-9]) ]]; then

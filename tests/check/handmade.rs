@@ -2,6 +2,7 @@
 
 use super::plans;
 use super::random::Random;
+use super::tally::TABLE_FRAME;
 use crate::model::plan::{LONGEST_FRAME, MOST_FLOWS, MOST_PORTS};
 use crate::model::{Crosspoint, Multiplexer, Plan, Queue, Switch};
 
@@ -54,8 +55,10 @@ struct Shape {
 fn shape(random: &mut Random) -> Shape {
     let ports = random.pick(&[1, 2, 3, 4, 5, 7, 11, 15, 16]);
     let longest = random.pick(&[2, 10, 100, LONGEST_FRAME]);
+    let any = random.within(2, longest as usize) as u32;
+    let frame = if random.one_in(4) { TABLE_FRAME } else { any };
     let depth = random.pick(&[1, 2, 3, 7, 63, 64]);
-    Shape { ports, frame: random.within(2, longest as usize) as u32, depth }
+    Shape { ports, frame, depth }
 }
 
 pub fn any_state(random: &mut Random) -> Switch {

@@ -26,6 +26,7 @@ pub fn compare<S: Operations>(rounds: usize, random: &mut Random, tally: &mut Ta
     inputs.desk_view_edges()?;
     inputs.multiplexer_edges()?;
     inputs.table_edges()?;
+    inputs.table_entries()?;
     inputs.start_edges()?;
     inputs.switch_edges()?;
     inputs.file_edges()?;

@@ -1,6 +1,6 @@
 //! Demand 3, asserted of the subject's own answers in a run: occupancy, order, shares, and which plan runs.
 
-use super::share::Share;
+use super::share::{Share, Shown};
 use super::tally::{Branch, Tally};
 use crate::model::plan::Plan;
 use crate::model::Switch;
@@ -160,11 +160,17 @@ impl Promises {
     }
 
     fn share(&mut self, flow: usize, board_empty: bool, head_sent: bool, tally: &mut Tally) -> Result<(), String> {
-        let fed_since_start = self.flows[flow]
+        let Shown { fed_since_start, lower_reached, upper_reached } = self.flows[flow]
             .share
             .slot(self.slots, board_empty, head_sent)
             .map_err(|broken| format!("flow {flow}: {broken}"))?;
         tally.branch(if fed_since_start { Branch::FedSinceStart } else { Branch::FedStretch });
+        if lower_reached {
+            tally.branch(if fed_since_start { Branch::LowerShareReached } else { Branch::LowerShareReachedLater });
+        }
+        if upper_reached {
+            tally.branch(Branch::UpperShareReached);
+        }
         Ok(())
     }
 

@@ -62,7 +62,7 @@ impl Recorded {
         self.measure::<S>(IDLE_SLOT, length, tally)?;
         let rates = self.plan.column(self.head);
         let boards: Vec<usize> = (0..self.plan.ports).filter(|&board| rates[board] > 0).collect();
-        if !boards.is_empty() {
+        for _ in 0..boards.len().min(2) {
             let board = self.random.pick(&boards);
             for length in [1, any, frame.min(slots), slots] {
                 let reply = self.measure::<S>(board as u16, length, tally)?;

@@ -66,7 +66,7 @@ pub fn random_run<S: Operations>(run_seed: u64, tally: &mut Tally) -> Result<(),
     let start = script.start.clone();
     let mut calls: Vec<Call> = Vec::new();
     let outcome = run_script::<S>(&mut script, &start, &mut calls, tally);
-    tally.runs += 1;
+    tally.run(start.frame);
     outcome.map_err(|what| {
         let first_seen = calls.len();
         let (calls, what) = cut_down::<S>(&start, calls, what);

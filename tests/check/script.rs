@@ -3,6 +3,7 @@
 use super::plans;
 use super::random::Random;
 use super::runs::{Call, Start};
+use super::tally::TABLE_FRAME;
 use crate::model::plan::LONGEST_FRAME;
 use crate::model::{Port, SlotAnswer};
 
@@ -229,14 +230,18 @@ fn random_ports(random: &mut Random) -> usize {
     }
 }
 
+/// Most presses have frames of 64 slots, whose deadlines the library reads from a table.
 fn random_frame(random: &mut Random) -> u32 {
     let longest = LONGEST_FRAME as usize;
-    let frame = match random.below(12) {
+    let frame = match random.below(16) {
         0..=3 => random.within(1, 12),
         4..=7 => random.within(13, 200),
         8..=10 => random.within(201, longest / 2),
-        _ if random.flip() => longest,
-        _ => random.within(longest / 2 + 1, longest - 1),
+        11 if random.flip() => longest,
+        11 => random.within(longest / 2 + 1, longest - 1),
+        12 => TABLE_FRAME as usize - 1,
+        13 => TABLE_FRAME as usize + 1,
+        _ => TABLE_FRAME as usize,
     };
     frame as u32
 }

@@ -24,9 +24,19 @@ pub struct Share {
     fed_since_start: bool,
 }
 
-/// Cells that may be missing from the lower bound.
-const SHORT_IF_FED: u64 = 3;
-const SHORT_IF_FED_SINCE_START: u64 = 2;
+/// Cells that may be missing from the lower bound where the board never answers empty. The scope asks for 3, and for 2 if it
+/// never did since the start; 2 is proved of every such stretch.
+const SHORT_IF_FED: u64 = 2;
+
+/// What a slot showed.
+#[derive(Default)]
+pub struct Shown {
+    /// The board never answered empty before.
+    pub fed_since_start: bool,
+    /// A stretch up to this slot had as few cells as are promised, or one that ends with it has as many.
+    pub lower_reached: bool,
+    pub upper_reached: bool,
+}
 
 impl Share {
     pub fn new(frame: u32, rate: u16) -> Share {
@@ -53,11 +63,10 @@ impl Share {
         Ok(())
     }
 
-    /// One slot in which the board answered empty, the head sent a cell, or both. Answers whether the
-    /// board never answered empty before.
-    pub fn slot(&mut self, slots: u64, board_empty: bool, head_sent: bool) -> Result<bool, String> {
-        self.check_lower(slots)?;
-        let fed = self.fed_since_start;
+    /// One slot in which the board answered empty, the head sent a cell, or both.
+    pub fn slot(&mut self, slots: u64, board_empty: bool, head_sent: bool) -> Result<Shown, String> {
+        let lower_reached = self.check_lower(slots)?;
+        let mut shown = Shown { fed_since_start: self.fed_since_start, lower_reached, upper_reached: false };
         if head_sent {
             let before = self.moment(slots);
             if self.lead(before) < self.lead(self.least) {
@@ -65,7 +74,7 @@ impl Share {
             }
             self.sent += 1;
             let after = self.moment(slots + 1);
-            self.check_upper(after)?;
+            shown.upper_reached = self.check_upper(after)?;
             if self.lead(after) > self.lead(self.greatest) {
                 self.greatest = after;
             }
@@ -74,11 +83,11 @@ impl Share {
             self.greatest = self.moment(slots + 1);
             self.fed_since_start = false;
         }
-        Ok(fed)
+        Ok(shown)
     }
 
     pub fn end(&self, slots: u64) -> Result<(), String> {
-        self.check_lower(slots)
+        self.check_lower(slots).map(|_reached| ())
     }
 
     fn moment(&self, slots: u64) -> Moment {
@@ -89,23 +98,24 @@ impl Share {
         i128::from(moment.sent) * i128::from(self.frame) - i128::from(moment.slots) * i128::from(self.rate)
     }
 
-    fn check_upper(&self, end: Moment) -> Result<(), String> {
+    /// Answers whether the bound is reached.
+    fn check_upper(&self, end: Moment) -> Result<bool, String> {
         let (length, sent) = (end.slots - self.least.slots, end.sent - self.least.sent);
         let most = (length * self.rate).div_ceil(self.frame) + 1;
         if sent > most {
             return Err(self.describe("upper", self.least.slots, length, sent, most));
         }
-        Ok(())
+        Ok(sent == most)
     }
 
-    fn check_lower(&self, end: u64) -> Result<(), String> {
+    /// Answers whether the bound is reached.
+    fn check_lower(&self, end: u64) -> Result<bool, String> {
         let (length, sent) = (end - self.greatest.slots, self.sent - self.greatest.sent);
-        let short = if self.fed_since_start { SHORT_IF_FED_SINCE_START } else { SHORT_IF_FED };
         let figure = length * self.rate / self.frame;
-        if sent + short < figure {
-            return Err(self.describe("lower", self.greatest.slots, length, sent, figure - short));
+        if sent + SHORT_IF_FED < figure {
+            return Err(self.describe("lower", self.greatest.slots, length, sent, figure - SHORT_IF_FED));
         }
-        Ok(())
+        Ok(sent + SHORT_IF_FED == figure)
     }
 
     fn describe(&self, side: &str, first: u64, length: u64, sent: u64, bound: u64) -> String {

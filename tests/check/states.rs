@@ -5,7 +5,7 @@ use super::guarded::Guarded;
 use super::handmade::{any_state, CLAUSES, THIRD_CELLS};
 use super::plans;
 use super::random::Random;
-use super::tally::Tally;
+use super::tally::{Tally, TABLE_FRAME};
 use crate::model::plan::{LONGEST_FRAME, MOST_PORTS};
 use crate::model::Switch;
 use crate::operations::Operations;
@@ -49,6 +49,7 @@ fn all_calls<S: Operations>(
     tally: &mut Tally,
 ) -> Result<(), String> {
     tally.waits(state.waits, broken);
+    tally.table_states += u64::from(state.running.frame == TABLE_FRAME && !broken);
     for call in [arrive::<S>, load::<S>, step::<S>, step_other_length::<S>] {
         let (verdict, _) = tallied(call(state, random), tally)?;
         if (verdict == BROKEN_STATE) != broken {

@@ -1,6 +1,7 @@
 //! What a comparison has seen.
 
 use super::covers::edges::EDGES;
+use super::handmade::{CLAUSES, THIRD_CELLS};
 use super::texts::faults::FAULTS;
 use super::texts::SOUND;
 use crate::model::Port;
@@ -47,6 +48,9 @@ pub enum Branch {
     ReplacedAfterSlots,
     FedSinceStart,
     FedStretch,
+    UpperShareReached,
+    LowerShareReached,
+    LowerShareReachedLater,
     RecordOfWholeFrames,
     RecordInMidFrame,
     RecordOfSeveralFrames,
@@ -55,7 +59,7 @@ pub enum Branch {
     AsFewAsPromised,
 }
 
-const BRANCHES: [&str; 23] = [
+const BRANCHES: [&str; 26] = [
     "board idle",
     "board empty",
     "board moved",
@@ -73,6 +77,9 @@ const BRANCHES: [&str; 23] = [
     "plan replaced after slots in which it waited",
     "lower share checked, fed since the start",
     "lower share checked, fed in the stretch",
+    "upper share reached",
+    "lower share reached, fed since the start",
+    "lower share reached, fed in the stretch",
     "head's record ends with a frame",
     "head's record ends in mid-frame",
     "head's record is longer than two frames",
@@ -93,7 +100,7 @@ const TIES: [&str; 3] =
     ["equal rates, to the lower number", "to the larger rate, a higher number", "to the larger rate, a lower number"];
 
 /// How often each was seen.
-#[derive(Default)]
+#[derive(Default, Debug, PartialEq)]
 pub struct Ties([u64; TIES.len()]);
 
 impl Ties {
@@ -102,10 +109,25 @@ impl Ties {
     }
 }
 
+/// The frame whose deadlines the library reads from a table.
+pub const TABLE_FRAME: u32 = 64;
+
+/// Frames that runs have to have, and how many slots of runs may go by for each such run.
+const FRAMES: [(u32, u64); 3] = [(TABLE_FRAME - 1, 1_000_000), (TABLE_FRAME, 100_000), (TABLE_FRAME + 1, 1_000_000)];
+
+/// The entries of the table: services 1 to a of each rate a from 1 to 64.
+const ENTRIES: u64 = 64 * 65 / 2;
+
+/// Texts that are read, whatever the number of slots.
+const LEAST_TEXTS: u64 = 140_000;
+
+/// Measurements of heads' records for each million slots of runs.
+const MEASUREMENTS_A_MILLION: u64 = 100_000;
+
 /// Bytes that `waits` has to hold in hand-made states; a bool would have two of them.
 const WAITS: [u8; 6] = [0, 1, 2, 3, 254, 255];
 
-#[derive(Default)]
+#[derive(Default, Debug, PartialEq)]
 pub struct Tally {
     pub runs: u64,
     pub slots: u64,
@@ -118,6 +140,13 @@ pub struct Tally {
     pub recorded: u64,
     /// Second loads on hand-made states that came out as they do without the first.
     pub second_loads: u64,
+    /// Entries of the table of deadlines that were found out by choices.
+    pub entries: u64,
+    /// Runs with each frame of `FRAMES`.
+    frames: [u64; FRAMES.len()],
+    /// Whole frames of one port, and hand-made states that hold, with `TABLE_FRAME`.
+    pub port_frames: u64,
+    pub table_states: u64,
     verdicts: [u64; VERDICTS[VERDICTS.len() - 1].0 + 1],
     branches: [u64; BRANCHES.len()],
     /// In choices by themselves.
@@ -137,6 +166,14 @@ pub struct Tally {
 impl Tally {
     pub fn verdict(&mut self, verdict: u32) {
         self.verdicts[verdict as usize] += 1;
+    }
+
+    /// A run with frames of so many slots.
+    pub fn run(&mut self, frame: u32) {
+        self.runs += 1;
+        if let Some(place) = FRAMES.iter().position(|&(named, _)| named == frame) {
+            self.frames[place] += 1;
+        }
     }
 
     pub fn branch(&mut self, branch: Branch) {
@@ -187,15 +224,57 @@ impl Tally {
         ]
     }
 
-    /// Prints all counts; answers what was never hit.
-    pub fn report(&self) -> Vec<String> {
+    /// Adds what another has counted.
+    pub fn add(&mut self, other: &Tally) {
+        self.runs += other.runs;
+        self.slots += other.slots;
+        self.calls += other.calls;
+        self.states += other.states;
+        self.inputs += other.inputs;
+        self.texts += other.texts;
+        self.covers += other.covers;
+        self.recorded += other.recorded;
+        self.second_loads += other.second_loads;
+        self.entries += other.entries;
+        self.port_frames += other.port_frames;
+        self.table_states += other.table_states;
+        add_each(&mut self.frames, &other.frames);
+        add_each(&mut self.verdicts, &other.verdicts);
+        add_each(&mut self.branches, &other.branches);
+        add_each(&mut self.ties.0, &other.ties.0);
+        add_each(&mut self.slot_ties.0, &other.slot_ties.0);
+        for (sums, counts) in self.waits.iter_mut().zip(&other.waits) {
+            add_each(sums, counts);
+        }
+        for (name, counts) in &other.clauses {
+            add_each(self.clauses.entry(name).or_default(), counts);
+        }
+        for (sums, counts) in [(&mut self.named_texts, &other.named_texts), (&mut self.edges, &other.edges)] {
+            counts.iter().for_each(|(name, count)| *sums.entry(name).or_default() += count);
+        }
+    }
+
+    /// Prints all counts; answers what was met less often than it should be, where so many slots of runs were asked for.
+    pub fn report(&self, slots: u64) -> Vec<String> {
         let mut missing = Vec::new();
-        let mut line = |name: String, count: u64| {
+        let mut at_least = |name: String, count: u64, least: u64| {
             println!("  {name:<48} {count:>12}");
-            if count == 0 {
-                missing.push(name);
+            if count < least {
+                missing.push(if least == 1 { name } else { format!("{name} ({count} of {least})") });
             }
         };
+        println!("how much");
+        at_least("slots of runs".to_string(), self.slots, slots);
+        at_least("texts".to_string(), self.texts, LEAST_TEXTS);
+        let measurements = slots / 1_000_000 * MEASUREMENTS_A_MILLION;
+        at_least("measurements of heads' records".to_string(), self.recorded, measurements);
+        at_least("entries of the table found out by choices".to_string(), self.entries, ENTRIES);
+        for ((frame, slots_a_run), count) in FRAMES.into_iter().zip(self.frames) {
+            at_least(format!("runs with T = {frame}"), count, slots / slots_a_run);
+        }
+        let mut line = |name: String, count: u64| at_least(name, count, 1);
+        line(format!("frames of one port with T = {TABLE_FRAME}"), self.port_frames);
+        line(format!("hand-made states that hold, T = {TABLE_FRAME}"), self.table_states);
         println!("verdicts");
         for (number, name) in VERDICTS {
             line(format!("{number} {name}"), self.verdicts[number]);
@@ -214,9 +293,10 @@ impl Tally {
             counts.into_iter().for_each(|(name, count)| line(name, count));
         }
         println!("clauses of 12 and 13, and loads, in hand-made states");
-        for (name, [within, past]) in &self.clauses {
-            line(format!("{name}, at the limit"), *within);
-            line(format!("{name}, past it"), *past);
+        for (name, _) in CLAUSES.iter().chain(&THIRD_CELLS) {
+            let [within, past] = self.clauses.get(name).copied().unwrap_or_default();
+            line(format!("{name}, at the limit"), within);
+            line(format!("{name}, past it"), past);
         }
         line("second load as without the first".to_string(), self.second_loads);
         println!("`waits` in hand-made states, each given to every call");
@@ -227,4 +307,8 @@ impl Tally {
         }
         missing
     }
+}
+
+fn add_each(sums: &mut [u64], counts: &[u64]) {
+    sums.iter_mut().zip(counts).for_each(|(sum, count)| *sum += count);
 }

@@ -30,10 +30,13 @@ fn case_11() {
 fn plan_rows() {
     ports(16, &[0; 16 * 16]);
     ports(17, &[0; 17 * 17]);
+    ports(1, &[0; 1]);
+    ports(0, &[0; 0]);
     frame(1);
     frame(0);
     plan(b"N = 2, 4 rates", 2, 3, &[0; 4]);
     plan(b"N = 2, 3 rates", 2, 3, &[0; 3]);
+    plan(b"N = 2, 5 rates", 2, 3, &[0; 5]);
     plan(b"T = 3, row 1 2", 2, 3, &[1, 2, 0, 0]);
     plan(b"T = 3, row 2 2", 2, 3, &[2, 2, 0, 0]);
     plan(b"T = 3, rows 2 0 and 1 0", 2, 3, &[2, 0, 1, 0]);
@@ -47,6 +50,7 @@ fn switch_rows() {
     depth(&[0; 0]);
     places(&[0; 2]);
     places(&[0; 3]);
+    places(&[0; 1]);
     loads();
     output(1);
     output(2);

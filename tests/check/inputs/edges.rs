@@ -5,6 +5,7 @@ use crate::check::calls;
 use crate::check::guarded::Guarded;
 use crate::check::plans;
 use crate::check::same::same;
+use crate::check::tally::TABLE_FRAME;
 use crate::check::texts::{PlanText, WRITINGS};
 use crate::model::plan::{LONGEST_FRAME, MOST_PORTS};
 use crate::model::{Multiplexer, Switch};
@@ -178,7 +179,7 @@ impl<S: Operations> Inputs<'_, S> {
     /// The deadlines that the library reads from a table, and those next to it that it divides for: in the last slot of a frame
     /// each service to come is held to a flow of rate T, which has every slot for a deadline.
     pub fn table_edges(&mut self) -> Result<(), String> {
-        for frame in [63, 64, 65] {
+        for frame in [TABLE_FRAME - 1, TABLE_FRAME, TABLE_FRAME + 1] {
             for rate in (0..=66).chain([u16::MAX]) {
                 for served in (0..=rate.min(66) + 1).chain([u16::MAX]) {
                     let mut multiplexer = Multiplexer { served: [served; MOST_PORTS] };
@@ -189,6 +190,32 @@ impl<S: Operations> Inputs<'_, S> {
                         }
                     }
                 }
+            }
+        }
+        Ok(())
+    }
+
+    /// Each deadline of a frame of 64 slots, found out by choices alone: in the last slot a rival of rate 64 has every slot for a
+    /// deadline, and goes before the flow as long as its own is not later. Held to the rule without a division.
+    pub fn table_entries(&mut self) -> Result<(), String> {
+        const FRAME: u16 = TABLE_FRAME as u16;
+        for rate in 1..=FRAME {
+            for served in 0..rate {
+                let mut multiplexer = Multiplexer::ZERO;
+                multiplexer.served[1] = served;
+                let mut deadline = 0;
+                while deadline < FRAME {
+                    multiplexer.served[0] = deadline;
+                    let choice = self.choose(&multiplexer, &[FRAME, rate], TABLE_FRAME, TABLE_FRAME - 1)?;
+                    if choice.flow() == Some(1) {
+                        break;
+                    }
+                    deadline += 1;
+                }
+                let (due, late) = (deadline * rate, (deadline - 1) * rate);
+                same("deadline by the rule", &(late < (served + 1) * FRAME && (served + 1) * FRAME <= due), &true)
+                    .map_err(|what| format!("rate {rate}, {served} served, deadline {deadline}: {what}"))?;
+                self.tally.entries += 1;
             }
         }
         Ok(())

@@ -3,6 +3,7 @@
 use super::{plan_file, Inputs};
 use crate::check::plans;
 use crate::check::same::same;
+use crate::check::tally::TABLE_FRAME;
 use crate::check::texts::{damage, PlanText, WRITINGS};
 use crate::model::plan::{LONGEST_FRAME, MOST_PORTS};
 use crate::model::Multiplexer;
@@ -12,7 +13,8 @@ impl<S: Operations> Inputs<'_, S> {
     fn random_shape(&mut self) -> (usize, u32) {
         let ports = self.random.within(1, 16);
         let longest = self.random.pick(&[4, 64, LONGEST_FRAME]);
-        (ports, self.random.within(1, longest as usize) as u32)
+        let any = self.random.within(1, longest as usize) as u32;
+        (ports, if self.random.one_in(8) { TABLE_FRAME } else { any })
     }
 
     /// Accepted, or with a few rates changed.
@@ -59,7 +61,7 @@ impl<S: Operations> Inputs<'_, S> {
         let rates = self.random.rates(length, most);
         let served: Vec<u16> = self.random.rates(MOST_PORTS, most);
         let multiplexer = Multiplexer { served: served.try_into().expect("16 counts") };
-        let any = [64, self.random.frame(), self.random.next() as u32];
+        let any = [TABLE_FRAME, self.random.frame(), self.random.next() as u32];
         let frame = self.random.pick(&any);
         let any = [self.random.below(65) as u32, self.random.frame() - 1, self.random.next() as u32];
         let slot = self.random.pick(&any);
@@ -111,6 +113,7 @@ impl<S: Operations> Inputs<'_, S> {
             }
         }
         same("services of a frame", &&multiplexer.served[..ports], &rates)?;
+        self.tally.port_frames += u64::from(frame == TABLE_FRAME);
         self.end_frame(&multiplexer, ports)
     }
 
