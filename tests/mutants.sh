@@ -1,7 +1,7 @@
 #!/usr/bin/env bash
 # The comparison put to the test: it has to catch each of these wrong versions of the switch. Each is the
 # model with one edit, built as the stand-in for the proved library; the near misses of the scope come first.
-# The unedited stand-in has to pass. With -v all that the comparison printed is shown. It takes some twenty minutes, and no gate
+# The unedited stand-in has to pass. With -v all that the comparison printed is shown. It takes some eight minutes, and no gate
 # runs it.
 set -euo pipefail
 cd "$(dirname "$0")/.."

@@ -60,6 +60,7 @@ pub fn serve_all<'a>(
         ports: ports,
         turns: idle,
     };
+    // In every frame, though it is read only where T is 64: a branch makes that frame slower (docs/PERFORMANCE.md).
     let entries = deadline_table();
     let table: &[u8] = &entries;
     for p in 0..n {
