@@ -30,7 +30,7 @@ pub record FirstOnce (n p diagonal : ℕ) : Type 0 where
   pub only : (other : ℕ) → p ≤ other → other < p + n → diagonalIn n other 0 ≡ diagonal → other ≡ period
 
 -- The fair start: "in any N periods that follow one another each diagonal is first exactly once" (proofs/PeriodLaws.antt,
--- fair-start). They follow one another as numbers: 4,294,967,295 and 0 don't (docs/DECISIONS.md, 75).
+-- fair-start). They follow one another as numbers: 4,294,967,295 and 0 don't (docs/DECISIONS.md has it under regulator).
 abbrev pub FairStart : Type 0
 FairStart = (n p diagonal : ℕ) → diagonal < n → FirstOnce n p diagonal
 

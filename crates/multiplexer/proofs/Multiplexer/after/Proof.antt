@@ -1,10 +1,6 @@
 use borrow.Author.Needs.{needs}
-use Prim.Native.Nat.{_+_}
-use mathlib.Core.Path.{_≡_, ap, _∙_}
 use native.Mathlib.Omega.{arith}
-use borrow.Author.Tests.{eq-eqb, ne-eqb}
-use Rattle.multiplexer.specs.Count.{endFrameOf}
-use Rattle.multiplexer.specs.declared.Multiplexer.{Multiplexer}
+use Rattle.multiplexer.proofs.ServeLaws.{served-last, served-on}
 use Rattle.multiplexer.proofs.Multiplexer.after.Statement.{statement}
 use Rattle.multiplexer.proofs.Multiplexer.after.Tie as tie
 
@@ -23,14 +19,12 @@ end-frame-requires c κs = search needs
 returns : tie.Need-returns
 returns c =
     let a = c .before .before .before .before .args in
-    let last : a .slot + 1 ≡ a .frame = omega arith in
-    let port = c .end-frame .ensures ∙ ap (λ (m : Multiplexer). endFrameOf m (a .n)) (c .before .before .before .counted .ensures) in
-    simp (eq-eqb (a .slot + 1) (a .frame) last) (cc)
+    served-last (a .self) (a .n) (a .frame) (a .slot) (c .before .before .before .counted .ensures) (c .before .before .choice-of .ensures) (omega arith) (c .end-frame .ensures)
 
 returns-2 : tie.Need-returns-2
 returns-2 c =
     let a = c .before .before .before .args in
-    simp (ne-eqb (a .slot + 1) (a .frame) (λ e. omega arith)) (cc)
+    served-on (a .self) (a .n) (a .frame) (a .slot) (c .before .before .counted .ensures) (c .before .choice-of .ensures) (λ e. omega arith)
 
 pub after-spec : {M : Type 1} → statement M
 after-spec =
