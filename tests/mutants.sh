@@ -1,12 +1,13 @@
 #!/usr/bin/env bash
 # The comparison put to the test: it has to catch each of these wrong versions of the switch. Each is the
 # model with one edit, built as the stand-in for the proved library; the near misses of the scope come first.
-# The unedited stand-in has to pass. With -v all that the comparison printed is shown. It takes some eight minutes, and no gate
-# runs it.
+# The unedited stand-in has to pass. With -v all that the comparison printed is shown. It takes eight to nine minutes,
+# and no gate runs it.
 set -euo pipefail
 cd "$(dirname "$0")/.."
 build=target/mutants
 failed=0
+found=0
 verbose=${1:-}
 
 # try NAME FILE SED-EDIT [SLOTS]
@@ -21,7 +22,7 @@ try() {
     status=0
     "$build/compare" "${4:-100000}" 1 > "$build/out" 2>&1 || status=$?
     if [ "$1" = unedited ]; then want=0; else want=1; fi
-    if [ $((status != 0)) = $want ]; then echo "ok, $1:"; else echo "WRONG, $1:"; failed=1; fi
+    if [ $((status != 0)) = $want ]; then echo "ok, $1:"; found=$((found + want)); else echo "WRONG, $1:"; failed=1; fi
     if [ "$verbose" = -v ]; then sed 's/^/    /' "$build/out"; else echo "    $(tail -n 1 "$build/out")"; fi
 }
 
@@ -94,4 +95,5 @@ try "a record of 65,536 slots is taken" meter.rs 's/LONGEST_RECORD: usize = 65_5
 try "a record of 65,535 slots is refused" meter.rs 's/LONGEST_RECORD: usize = 65_535/LONGEST_RECORD: usize = 65_534/'
 try "flow 65,535 counts nothing" meter.rs 's/served == flow/served == flow \&\& flow != IDLE_SLOT/'
 try "a refused measurement has a place" ../operations.rs 's/unwrap_or(Cover::ZERO)/unwrap_or(Cover { most: Stretch { services: 0, place: record.len() }, ..Cover::ZERO })/'
+echo "$found wrong versions found"
 exit $failed
