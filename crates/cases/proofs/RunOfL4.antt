@@ -2,19 +2,19 @@
 -- is reached: by the table, the crossing of flow (0, 0) holds two after slot 6.
 use mathlib.Core.Path.{◌≡◌, refl}
 use Rattle.refusal.specs.declared.Verdict.TheVariants.{Accepted}
-use Rattle.plan.specs.Lines.{rowSum, column_sum}
-use Rattle.plan.specs.Range.{portsInRange, frameInRange}
-use Rattle.plan.specs.Accept.{acceptOf}
-use Rattle.crossbar.specs.State.{depthInRange, storeFits}
-use Rattle.crossbar.specs.Start.{startVerdict, start_of}
+use Rattle.plan.specs.Lines.{row_sum, column_sum}
+use Rattle.plan.specs.Range.{ports_in_range, frame_in_range}
+use Rattle.plan.specs.Accept.{accept_of}
+use Rattle.crossbar.specs.State.{depth_in_range, store_fits}
+use Rattle.crossbar.specs.Start.{start_verdict, start_of}
 use Rattle.runs.specs.Run.{Run}
 use Rattle.cases.specs.Look.{started}
-use Rattle.cases.specs.Table.{fedFrame, l4Rates}
-use Rattle.cases.proofs.OwnRuns.{own-run}
+use Rattle.cases.specs.Table.{fed_frame, l4_rates}
+use Rattle.cases.proofs.OwnRuns.{own_run}
 
-start-accepted : (started 2 9 l4Rates).verdict ≡ Accepted
-unfolding start_of startVerdict acceptOf portsInRange frameInRange rowSum column_sum depthInRange storeFits
-start-accepted = refl
+start_accepted : (started 2 9 l4_rates).verdict ≡ Accepted
+unfolding start_of start_verdict accept_of ports_in_range frame_in_range row_sum column_sum depth_in_range store_fits
+start_accepted = refl
 
-pub run-of-l4 : Run
-run-of-l4 = own-run 2 9 l4Rates (fedFrame 0 0 9) start-accepted refl
+pub run_of_l4 : Run
+run_of_l4 = own_run 2 9 l4_rates (fed_frame 0 0 9) start_accepted refl

@@ -8,50 +8,50 @@ use lib.Dec.{lit<, lit≤}
 use lib.ListN.{length, length-append}
 use borrow.Author.Tests.{lt-ltb, le-ltb}
 use Rattle.io.specs.Digits.{IsDigitCount, last_digits, hex_digit_ascii}
-use Rattle.plan.proofs.BelowLaws.{lt-or-le}
-use Rattle.console.specs.Text.{digitsOf, decimalOf}
+use Rattle.plan.proofs.BelowLaws.{lt_or_le}
+use Rattle.console.specs.Text.{digits_of, decimal_of}
 
 tenth : (n k : ℕ) → n < 10 ^ suc k → n / 10 < 10 ^ k
 tenth n k h = (div-lt_iff_lt-mul {k = 10} {x = n} {y = 10 ^ k} (lit< tt)).1 (subst (λ (m : ℕ). n < m) (pow-suc 10 k) h)
 
 -- a number of 64 bits has at most 20 digits
-digits-few : (n k : ℕ) → n < 2 ^ 64 → IsDigitCount 10 1 n k → k ≤ 20
-digits-few n k h f =
+digits_few : (n k : ℕ) → n < 2 ^ 64 → IsDigitCount 10 1 n k → k ≤ 20
+digits_few n k h f =
     ⊎_elim
     (λ (l : k < 21). omega arith)
     (λ (l : 21 ≤ k).
     let large : 10 ^ 20 ≤ n = le_trans (pow-le-pow_right {n = 10} (lit< tt) {i = 20} {j = k - 1} (omega arith)) (f.2 (omega arith)) in
     absurd (lt_irrefl n (lt_of_lt_of_le h (le_trans (lit≤ tt) large))))
-    (lt-or-le k 21)
+    (lt_or_le k 21)
 
 -- a number has one digit, or one more than its tenth
-digits-cases : (most n : ℕ) →
-    ((n < 10) × (length (digitsOf (suc most) n) ≡ 1)) ⊎ ((10 ≤ n) × (length (digitsOf (suc most) n) ≡ suc (length (digitsOf most (n / 10)))))
-unfolding digitsOf
-digits-cases most n =
+digits_cases : (most n : ℕ) →
+    ((n < 10) × (length (digits_of (suc most) n) ≡ 1)) ⊎ ((10 ≤ n) × (length (digits_of (suc most) n) ≡ suc (length (digits_of most (n / 10)))))
+unfolding digits_of
+digits_cases most n =
     ⊎_elim
     (λ (l : n < 10). inl (l, simp (lt-ltb n 10 l)))
     (λ (l : 10 ≤ n). inr (l, simp (le-ltb n 10 l, length-append) (omega arith)))
-    (lt-or-le n 10)
+    (lt_or_le n 10)
 
-pub digits-within : (most n : ℕ) → length (digitsOf most n) ≤ most
-unfolding digitsOf
-digits-within zero n = omega arith
-digits-within (suc most) n = ⊎_elim (λ one. omega arith) (λ more. omega (arith, digits-within most (n / 10))) (digits-cases most n)
+pub digits_within : (most n : ℕ) → length (digits_of most n) ≤ most
+unfolding digits_of
+digits_within zero n = omega arith
+digits_within (suc most) n = ⊎_elim (λ one. omega arith) (λ more. omega (arith, digits_within most (n / 10))) (digits_cases most n)
 
 -- a number below 10 ^ (k + 1) has at most k + 1
-pub digits-below : (k most n : ℕ) → n < 10 ^ suc k → length (digitsOf most n) ≤ suc k
-unfolding digitsOf
-digits-below k zero n h = omega arith
-digits-below zero (suc most) n h = ⊎_elim (λ one. omega arith) (λ more. omega arith) (digits-cases most n)
-digits-below (suc k) (suc most) n h =
-    ⊎_elim (λ one. omega arith) (λ more. omega (arith, digits-below k most (n / 10) (tenth n (suc k) h))) (digits-cases most n)
+pub digits_below : (k most n : ℕ) → n < 10 ^ suc k → length (digits_of most n) ≤ suc k
+unfolding digits_of
+digits_below k zero n h = omega arith
+digits_below zero (suc most) n h = ⊎_elim (λ one. omega arith) (λ more. omega arith) (digits_cases most n)
+digits_below (suc k) (suc most) n h =
+    ⊎_elim (λ one. omega arith) (λ more. omega (arith, digits_below k most (n / 10) (tenth n (suc k) h))) (digits_cases most n)
 
-glyph-digit : (d : ℕ) → d < 10 → hex_digit_ascii d ≡ 48 + d
-glyph-digit d h = simp (lt-ltb d 10 h)
+glyph_digit : (d : ℕ) → d < 10 → hex_digit_ascii d ≡ 48 + d
+glyph_digit d h = simp (lt-ltb d 10 h)
 
-digits_same : (k most n : ℕ) → k ≤ most → IsDigitCount 10 1 n k → last_digits 10 k n ≡ digitsOf most n
-unfolding digitsOf
+digits_same : (k most n : ℕ) → k ≤ most → IsDigitCount 10 1 n k → last_digits 10 k n ≡ digits_of most n
+unfolding digits_of
 digits_same zero most n h f = absurd (omega (arith, f.0))
 digits_same (suc k) zero n h f = absurd (omega arith)
 digits_same (suc zero) (suc most) n h f =
@@ -69,8 +69,8 @@ digits_same (suc (suc k)) (suc most) n h f =
     simp (
       le-ltb n 10 large,
       digits_same (suc k) most (n / 10) (omega arith) rest,
-      glyph-digit (n % 10) (mod-lt n (lit< tt)),
+      glyph_digit (n % 10) (mod-lt n (lit< tt)),
     )
 
-pub digits_decimal : (n k : ℕ) → n < 2 ^ 64 → IsDigitCount 10 1 n k → last_digits 10 k n ≡ decimalOf n
-digits_decimal n k h f = digits_same k 20 n (digits-few n k h f) f
+pub digits_decimal : (n k : ℕ) → n < 2 ^ 64 → IsDigitCount 10 1 n k → last_digits 10 k n ≡ decimal_of n
+digits_decimal n k h f = digits_same k 20 n (digits_few n k h f) f

@@ -7,76 +7,76 @@ use native.Mathlib.Nat.{add-zero, add-suc}
 use native.Mathlib.Numerals.{add-one}
 use native.Mathlib.Omega.{arith}
 use lib.ListN.{length, length-append}
-use Rattle.plan.proofs.BelowLaws.{below-or-last}
+use Rattle.plan.proofs.BelowLaws.{below_or_last}
 use Rattle.console.specs.Text.{HasRoom, Written}
-use Rattle.console.specs.TextBelow.{textBelow}
+use Rattle.console.specs.TextBelow.{text_below}
 use Rattle.console.proofs.TextLaws.{nothing_written, written_as, written_on}
 
 module _ (text : ℕ → List ℕ) where
   -- before the first one nothing is written
-  pub below_none : (buffer : List ℕ) (at : ℕ) → Written buffer at (textBelow text 0) buffer at
-  unfolding textBelow
+  pub below_none : (buffer : List ℕ) (at : ℕ) → Written buffer at (text_below text 0) buffer at
+  unfolding text_below
   below_none buffer at = nothing_written buffer at
 
-  pub below_next : (p : ℕ) → textBelow text p ++ text p ≡ textBelow text (p + 1)
-  unfolding textBelow
+  pub below_next : (p : ℕ) → text_below text p ++ text p ≡ text_below text (p + 1)
+  unfolding text_below
   below_next p = rw (add-one p) refl
 
-  pub below-nothing : textBelow text 0 ≡ []
-  unfolding textBelow
+  pub below-nothing : text_below text 0 ≡ []
+  unfolding text_below
   below-nothing = refl
 
-  pub below_last : (n : ℕ) → textBelow text (suc n) ≡ textBelow text n ++ text n
-  unfolding textBelow
+  pub below_last : (n : ℕ) → text_below text (suc n) ≡ text_below text n ++ text n
+  unfolding text_below
   below_last n = refl
 
   -- those below m, and n more
-  pub below-join : (m n : ℕ) → textBelow text (m + n) ≡ textBelow text m ++ textBelow (λ k. text (m + k)) n
-  unfolding textBelow
+  pub below-join : (m n : ℕ) → text_below text (m + n) ≡ text_below text m ++ text_below (λ k. text (m + k)) n
+  unfolding text_below
   below-join m zero = rw (add-zero m, append-nil) refl
   below-join m (suc n) = rw (add-suc m n, below-join m n, append_assoc) refl
 
-  below-longer : (n : ℕ) → length (textBelow text (suc n)) ≡ length (textBelow text n) + length (text n)
-  unfolding textBelow
-  below-longer n = length-append (textBelow text n) (text n)
+  below-longer : (n : ℕ) → length (text_below text (suc n)) ≡ length (text_below text n) + length (text n)
+  unfolding text_below
+  below-longer n = length-append (text_below text n) (text n)
 
   -- those below p, and that of p, are within those below a larger number
-  below-within : (p n : ℕ) → p < n → length (textBelow text p) + length (text p) ≤ length (textBelow text n)
+  below-within : (p n : ℕ) → p < n → length (text_below text p) + length (text p) ≤ length (text_below text n)
   below-within p zero l = absurd (omega arith)
   below-within p (suc n) l =
       ⊎_elim
       (λ (b : p < n). omega (arith, below-longer n, below-within p n b))
       (λ (e : p ≡ n). rw e (omega (arith, below-longer n)))
-      (below-or-last p n l)
+      (below_or_last p n l)
 
   -- so where there is room for all of them, there is room for the next one
-  pub below-room : {before after : List ℕ} {start at p n : ℕ} → p < n → HasRoom before start (textBelow text n) → length after ≡ length before
-      → Written before start (textBelow text p) after at → HasRoom after at (text p)
+  pub below-room : {before after : List ℕ} {start at p n : ℕ} → p < n → HasRoom before start (text_below text n) → length after ≡ length before
+      → Written before start (text_below text p) after at → HasRoom after at (text p)
   below-room {p = p} {n = n} l room same w = omega (arith, w.place, below-within p n l)
 
   -- texts of at most k bytes
-  pub below-short : (k n : ℕ) → ((p : ℕ) → p < n → length (text p) ≤ k) → length (textBelow text n) ≤ n * k
-  unfolding textBelow
+  pub below-short : (k n : ℕ) → ((p : ℕ) → p < n → length (text p) ≤ k) → length (text_below text n) ≤ n * k
+  unfolding text_below
   below-short k zero h = omega arith
   below-short k (suc n) h = omega (arith, below-longer n, below-short k n (λ p l. h p (omega arith)), h n (omega arith))
 
 -- the first one, and the others
-pub below-first : (text : ℕ → List ℕ) (n : ℕ) → textBelow text (suc n) ≡ text 0 ++ textBelow (λ k. text (suc k)) n
-unfolding textBelow
-below-first text zero = sym (append-nil (text 0))
-below-first text (suc n) = rw (below-first text n, append_assoc) refl
+pub below_first : (text : ℕ → List ℕ) (n : ℕ) → text_below text (suc n) ≡ text 0 ++ text_below (λ k. text (suc k)) n
+unfolding text_below
+below_first text zero = sym (append-nil (text 0))
+below_first text (suc n) = rw (below_first text n, append_assoc) refl
 
 -- the same texts, one by one
-pub below-same : (text text' : ℕ → List ℕ) (n : ℕ) → ((p : ℕ) → p < n → text p ≡ text' p) → textBelow text n ≡ textBelow text' n
-unfolding textBelow
-below-same text text' zero h = refl
-below-same text text' (suc n) h = rw (below-same text text' n (λ p l. h p (omega arith)), h n (omega arith)) refl
+pub below_same : (text text' : ℕ → List ℕ) (n : ℕ) → ((p : ℕ) → p < n → text p ≡ text' p) → text_below text n ≡ text_below text' n
+unfolding text_below
+below_same text text' zero h = refl
+below_same text text' (suc n) h = rw (below_same text text' n (λ p l. h p (omega arith)), h n (omega arith)) refl
 
 -- one text more behind those below p: none, where it is empty, and else a line that was written
-module _ (text : ℕ → List ℕ) {before mid : List ℕ} {start at p : ℕ} (w : Written before start (textBelow text p) mid at) where
-  pub below-skip : text p ≡ [] → Written before start (textBelow text (p + 1)) mid at
+module _ (text : ℕ → List ℕ) {before mid : List ℕ} {start at p : ℕ} (w : Written before start (text_below text p) mid at) where
+  pub below-skip : text p ≡ [] → Written before start (text_below text (p + 1)) mid at
   below-skip e =
-      written_as w (sym (append-nil (textBelow text p)) ∙ ap (λ (l : List ℕ). textBelow text p ++ l) (sym e) ∙ below_next text p)
+      written_as w (sym (append-nil (text_below text p)) ∙ ap (λ (l : List ℕ). text_below text p ++ l) (sym e) ∙ below_next text p)
 
-  pub below_step : {after line : List ℕ} {r : ℕ} → text p ≡ line → Written mid at line after r → Written before start (textBelow text (p + 1)) after r
+  pub below_step : {after line : List ℕ} {r : ℕ} → text p ≡ line → Written mid at line after r → Written before start (text_below text (p + 1)) after r
   below_step e v = written_as (written_on w (written_as v (sym e))) (below_next text p)

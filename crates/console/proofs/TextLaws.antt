@@ -5,13 +5,13 @@ use mathlib.Core.Path.{◌≡◌, refl, ap, sym, subst, ◌∙◌}
 use native.Mathlib.Omega.{arith}
 use lib.ListN.{length, take, drop, length-append, length-drop, length-take, drop_of_length-le}
 use lib.Seq.{take_all, take-length, take-append_seam, take-append-add, drop-append_seam, drop-append-add, drop-drop, length-take-le}
-use Rattle.refusal.specs.Chain.{ifAccepted}
-use Rattle.refusal.specs.Number.{verdictNumberOf}
+use Rattle.refusal.specs.Chain.{if_accepted}
+use Rattle.refusal.specs.Number.{verdict_number_of}
 use Rattle.refusal.specs.declared.Verdict.{Verdict}
 use Rattle.refusal.specs.declared.Verdict.TheVariants.{Accepted, Refused}
 use Rattle.console.specs.Text.{HasRoom, Written}
-use Rattle.console.specs.Refused.{refusalLineOf, refusalRoom}
-use Rattle.console.proofs.DigitLaws.{digits-within}
+use Rattle.console.specs.Refused.{refusal_line_of, refusal_room}
+use Rattle.console.proofs.DigitLaws.{digits_within}
 
 pub nothing_written : (buffer : List ℕ) (at : ℕ) → Written buffer at [] buffer at
 nothing_written buffer at = record { place = omega arith; bytes = sym (append-nil (take at buffer)); kept = refl }
@@ -31,8 +31,8 @@ module _ {buffer : List ℕ} {at : ℕ} (x y : List ℕ) (room : HasRoom buffer 
   room_next w same = omega (arith, w.place, length-append x y)
 
 -- what stands from a place on stands from each later one on
-drop-later : (x y : List ℕ) (m k : ℕ) → drop m x ≡ drop m y → drop (m + k) x ≡ drop (m + k) y
-drop-later x y m k e = sym (drop-drop k m x) ∙ ap (drop k) e ∙ drop-drop k m y
+drop_later : (x y : List ℕ) (m k : ℕ) → drop m x ≡ drop m y → drop (m + k) x ≡ drop (m + k) y
+drop_later x y m k e = sym (drop-drop k m x) ∙ ap (drop k) e ∙ drop-drop k m y
 
 -- one text, and another behind it
 pub written_on : {before mid after x y : List ℕ} {at m r : ℕ} → Written before at x mid m → Written mid m y after r → Written before at (x ++ y) after r
@@ -40,12 +40,12 @@ written_on {before} {mid} {after} {x} {y} {at} {m} {r} v w =
     record {
       place = simp length-append (omega (arith, v.place, w.place));
       bytes = w.bytes ∙ ap (λ (l : List ℕ). l ++ y) v.bytes ∙ append_assoc (take at before) x y;
-      kept = w.kept ∙ rw w.place (drop-later mid before m (length y) v.kept);
+      kept = w.kept ∙ rw w.place (drop_later mid before m (length y) v.kept);
     }
 
 -- a buffer holds a text that was written at its start
-pub written-within : {before text after : List ℕ} {r : ℕ} → Written before 0 text after r → r ≤ length after
-written-within {after = after} {r = r} w = omega (arith, w.place, length-take r after, ap length w.bytes)
+pub written_within : {before text after : List ℕ} {r : ℕ} → Written before 0 text after r → r ≤ length after
+written_within {after = after} {r = r} w = omega (arith, w.place, length-take r after, ap length w.bytes)
 
 -- A text that is being written into a buffer: its beginning stands there up to the place `at`, and `rest` is left.
 pub record Begun (before : List ℕ) (start : ℕ) (text rest after : List ℕ) (at : ℕ) : Type 0 where
@@ -53,8 +53,8 @@ pub record Begun (before : List ℕ) (start : ℕ) (text rest after : List ℕ) 
   written : Written before start begin after at
   whole : begin ++ rest ≡ text
 
-pub begun-start : (buffer : List ℕ) (start : ℕ) {text rest : List ℕ} → rest ≡ text → Begun buffer start text rest buffer start
-begun-start buffer start e = record { begin = []; written = nothing_written buffer start; whole = e }
+pub begun_start : (buffer : List ℕ) (start : ℕ) {text rest : List ℕ} → rest ≡ text → Begun buffer start text rest buffer start
+begun_start buffer start e = record { begin = []; written = nothing_written buffer start; whole = e }
 
 module _ {before text rest after : List ℕ} {start at : ℕ} (b : Begun before start text rest after at) where
   -- a line of the rest is written
@@ -103,11 +103,11 @@ module _ (buffer text part : List ℕ) (at r : ℕ) (room : HasRoom buffer at te
             ∙ ap (λ (m : ℕ). drop (m + length text) buffer) (sym size);
       })
 
-pub refusal-short : (v : Verdict) → length (refusalLineOf v) ≤ refusalRoom
-unfolding refusalLineOf
-refusal-short v = simp length-append (omega (arith, digits-within 20 (verdictNumberOf v)))
+pub refusal_short : (v : Verdict) → length (refusal_line_of v) ≤ refusal_room
+unfolding refusal_line_of
+refusal_short v = simp length-append (omega (arith, digits_within 20 (verdict_number_of v)))
 
 -- one text where a call was accepted, and another where it was refused
-pub either-short : (k : ℕ) (v : Verdict) (x y : List ℕ) → (v ≡ Accepted → length x ≤ k) → length y ≤ k → length (ifAccepted v x y) ≤ k
-either-short k Accepted x y hx hy = hx refl
-either-short k (Refused r) x y hx hy = hy
+pub either_short : (k : ℕ) (v : Verdict) (x y : List ℕ) → (v ≡ Accepted → length x ≤ k) → length y ≤ k → length (if_accepted v x y) ≤ k
+either_short k Accepted x y hx hy = hx refl
+either_short k (Refused r) x y hx hy = hy

@@ -1,20 +1,20 @@
 -- The line of a refusal: "prints "refused", a space and its number", and "each line ends in LF".
 use Rattle.std.specs.Prelude.{ℕ, ◌+◌, List, [], ◌∷◌, ◌++◌}
-use Rattle.refusal.specs.Number.{verdictNumberOf}
+use Rattle.refusal.specs.Number.{verdict_number_of}
 use Rattle.refusal.specs.declared.Verdict.{Verdict}
-use Rattle.console.specs.Text.{decimalOf}
+use Rattle.console.specs.Text.{decimal_of}
 
 -- "refused" and a space
-abbrev refusedName : List ℕ
-refusedName = 114 ∷ 101 ∷ 102 ∷ 117 ∷ 115 ∷ 101 ∷ 100 ∷ 32 ∷ []
+abbrev refused_name : List ℕ
+refused_name = 114 ∷ 101 ∷ 102 ∷ 117 ∷ 115 ∷ 101 ∷ 100 ∷ 32 ∷ []
 
 -- LF
-abbrev pub lineEnd : List ℕ
-lineEnd = 10 ∷ []
+abbrev pub line_end : List ℕ
+line_end = 10 ∷ []
 
-unfoldable pub refusalLineOf : Verdict → List ℕ
-refusalLineOf v = refusedName ++ decimalOf (verdictNumberOf v) ++ lineEnd
+unfoldable pub refusal_line_of : Verdict → List ℕ
+refusal_line_of v = refused_name ++ decimal_of (verdict_number_of v) ++ line_end
 
 -- room for every such line: the word and a space, a number of 64 bits, LF
-abbrev pub refusalRoom : ℕ
-refusalRoom = 8 + 20 + 1
+abbrev pub refusal_room : ℕ
+refusal_room = 8 + 20 + 1

@@ -6,13 +6,13 @@ abbrev digit : ℕ → ℕ
 digit d = 48 + d
 
 -- the decimal digits of a number that has at most `most` of them
-unfoldable pub digitsOf : ℕ → ℕ → List ℕ
-digitsOf zero n = []
-digitsOf (suc most) n = cond (ltb n 10) (digit n ∷ []) (digitsOf most (n / 10) ++ (digit (n % 10) ∷ []))
+unfoldable pub digits_of : ℕ → ℕ → List ℕ
+digits_of zero n = []
+digits_of (suc most) n = cond (ltb n 10) (digit n ∷ []) (digits_of most (n / 10) ++ (digit (n % 10) ∷ []))
 
 -- the decimal digits of a number of 64 bits
-abbrev pub decimalOf : ℕ → List ℕ
-decimalOf n = digitsOf 20 n
+abbrev pub decimal_of : ℕ → List ℕ
+decimal_of n = digits_of 20 n
 
 -- For the code: a buffer has room for a text behind its first `at` bytes.
 pub record HasRoom (buffer : List ℕ) (at : ℕ) (text : List ℕ) : Type 0 where

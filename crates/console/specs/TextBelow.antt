@@ -2,6 +2,6 @@
 use Rattle.std.specs.Prelude.{ℕ, zero, suc, List, [], ◌++◌}
 
 -- the texts of 0, .., n - 1
-unfoldable pub textBelow : (ℕ → List ℕ) → ℕ → List ℕ
-textBelow text zero = []
-textBelow text (suc p) = textBelow text p ++ text p
+unfoldable pub text_below : (ℕ → List ℕ) → ℕ → List ℕ
+text_below text zero = []
+text_below text (suc p) = text_below text p ++ text p

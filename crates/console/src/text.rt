@@ -1,6 +1,6 @@
 // Text in a lent buffer. Each function writes into it from the place `at` and answers the place behind.
-ghost use Rattle.console.specs.Text.{decimalOf, HasRoom, Written};
-ghost use Rattle.console.specs.Refused.{refusalLineOf};
+ghost use Rattle.console.specs.Text.{decimal_of, HasRoom, Written};
+ghost use Rattle.console.specs.Refused.{refusal_line_of};
 
 use refusal::Verdict;
 
@@ -15,8 +15,8 @@ pub fn put(out: &mut [u8], at: usize, text: &[u8]) -> usize
 }
 
 pub fn number(out: &mut [u8], at: usize, value: u64) -> usize
-    requires { HasRoom out.old at (decimalOf value) }
-    ensures { Written out.old at (decimalOf value) out.new result }
+    requires { HasRoom out.old at (decimal_of value) }
+    ensures { Written out.old at (decimal_of value) out.new result }
 {
     let mut digits = [0u8; 20];
     let len = io::decimal(value, &mut digits);
@@ -24,8 +24,8 @@ pub fn number(out: &mut [u8], at: usize, value: u64) -> usize
 }
 
 pub fn refusal_line(out: &mut [u8], at: usize, verdict: Verdict) -> usize
-    requires { HasRoom out.old at (refusalLineOf verdict) }
-    ensures { Written out.old at (refusalLineOf verdict) out.new result }
+    requires { HasRoom out.old at (refusal_line_of verdict) }
+    ensures { Written out.old at (refusal_line_of verdict) out.new result }
 {
     let number_at = put(out, at, b"refused ");
     let end = number(out, number_at, verdict.number() as u64);

@@ -11,28 +11,28 @@ use borrow.Author.Tests.{not-false, ltb-true, lt-ltb, leb-false, lt-leb}
 use Rattle.refusal.specs.declared.Refusal.{Refusal}
 use Rattle.refusal.specs.declared.Verdict.{Verdict}
 use Rattle.refusal.specs.declared.Verdict.TheVariants.{Accepted, Refused}
-use Rattle.refusal.proofs.ChainLaws.{refuse-passed}
-use Rattle.plan.specs.Range.{mostFlows}
+use Rattle.refusal.proofs.ChainLaws.{refuse_passed}
+use Rattle.plan.specs.Range.{most_flows}
 use Rattle.plan.specs.Lines.{flow_of}
-use Rattle.plan.proofs.BelowLaws.{and-true}
-use Rattle.plan.proofs.LineLaws.{row_within, flow-below, square-small}
-use Rattle.crossbar.specs.State.{queueAt, storeFits}
-use Rattle.fabric.specs.Flow.{mostDepth}
+use Rattle.plan.proofs.BelowLaws.{and_true}
+use Rattle.plan.proofs.LineLaws.{row_within, flow_below, square_small}
+use Rattle.crossbar.specs.State.{queue_at, store_fits}
+use Rattle.fabric.specs.Flow.{most_depth}
 use Rattle.crossbar.specs.Valid.{valid_of}
-use Rattle.crossbar.specs.Arrive.{withQueues, longer, arriveVerdict, CanArrive, arriveOf, Arrives}
+use Rattle.crossbar.specs.Arrive.{with_queues, longer, arrive_verdict, CanArrive, arrive_of, Arrives}
 use Rattle.crossbar.specs.declared.state.Switch.{Switch}
-use Rattle.crossbar.proofs.StoreLaws.{store_length, store-fits}
+use Rattle.crossbar.proofs.StoreLaws.{store_length, store_fits_lem}
 use Rattle.crossbar.proofs.ValidLaws.{valid}
 
-pub can-arrive : (s : Switch) (len i j : ℕ) → arriveVerdict s len i j ≡ Accepted → CanArrive s len i j
-unfolding arriveVerdict
-can-arrive s len i j e =
+pub can_arrive : (s : Switch) (len i j : ℕ) → arrive_verdict s len i j ≡ Accepted → CanArrive s len i j
+unfolding arrive_verdict
+can_arrive s len i j e =
     let n = s.running.ports in
-    let first = refuse-passed (not (valid_of s)) _ _ e in
-    let second = refuse-passed (not (storeFits n s.depth len)) _ _ first.1 in
-    let third = refuse-passed (not (ltb i n && ltb j n)) _ _ second.1 in
-    let fourth = refuse-passed (leb s.depth (queueAt s (flow_of n i j)).count) _ _ third.1 in
-    let ports = and-true (ltb i n) (ltb j n) (not-false _ third.0) in
+    let first = refuse_passed (not (valid_of s)) _ _ e in
+    let second = refuse_passed (not (store_fits n s.depth len)) _ _ first.1 in
+    let third = refuse_passed (not (ltb i n && ltb j n)) _ _ second.1 in
+    let fourth = refuse_passed (leb s.depth (queue_at s (flow_of n i j)).count) _ _ third.1 in
+    let ports = and_true (ltb i n) (ltb j n) (not-false _ third.0) in
     record {
       valid = not-false _ first.0;
       store = store_length n s.depth len (not-false _ second.0);
@@ -41,53 +41,53 @@ can-arrive s len i j e =
       room = leb-false _ _ fourth.0;
     }
 
-pub arrives : (s : Switch) (len i j : ℕ) → CanArrive s len i j → arriveVerdict s len i j ≡ Accepted
-unfolding arriveVerdict
+pub arrives : (s : Switch) (len i j : ℕ) → CanArrive s len i j → arrive_verdict s len i j ≡ Accepted
+unfolding arrive_verdict
 arrives s len i j can =
     simp (
       can.valid,
-      store-fits _ _ len can.store,
+      store_fits_lem _ _ len can.store,
       lt-ltb i _ can.board,
       lt-ltb j _ can.head,
       lt-leb _ _ can.room,
     )
 
 -- The answer and the store, as the code leaves them, by its verdict v.
-module _ (s : Switch) (store : List ℕ) (i j cell : ℕ) {v : Verdict} (is : v ≡ arriveVerdict s (length store) i j) where
+module _ (s : Switch) (store : List ℕ) (i j cell : ℕ) {v : Verdict} (is : v ≡ arrive_verdict s (length store) i j) where
   -- `next` is the place of the ring that the cell goes to
   pub arrive-accepted : {next : ℕ} → v ≡ Accepted →
       let k = flow_of s.running.ports i j in
-      let q = queueAt s k in
+      let q = queue_at s k in
       next ≡ (q.place + q.count) % s.depth →
-      Arrives s store i j cell (record { verdict = v; state = withQueues s (set s.fabric.queues k (longer q)) }) (set store (k * s.depth + next) cell)
-  unfolding arriveOf
+      Arrives s store i j cell (record { verdict = v; state = with_queues s (set s.fabric.queues k (longer q)) }) (set store (k * s.depth + next) cell)
+  unfolding arrive_of
   arrive-accepted told place = rw (← is, told, place) refl
 
   -- a refused arrival leaves state and store as they were
   pub arrive-refused : {r : Refusal} → v ≡ Refused r → Arrives s store i j cell (record { verdict = v; state = s }) store
-  unfolding arriveOf
+  unfolding arrive_of
   arrive-refused told = rw (← is, told) refl
 
 -- the flow has a number in the lists, and its next cell a place in the store
 pub record Placed (s : Switch) (len i j : ℕ) : Type 0 where
-  pub deep : s.depth ≤ mostDepth
-  pub few : flow_of s.running.ports i j < mostFlows
-  pub room : (queueAt s (flow_of s.running.ports i j)).count < s.depth
-  pub once-around : let q = queueAt s (flow_of s.running.ports i j) in q.place + q.count < s.depth + s.depth
+  pub deep : s.depth ≤ most_depth
+  pub few : flow_of s.running.ports i j < most_flows
+  pub room : (queue_at s (flow_of s.running.ports i j)).count < s.depth
+  pub once_around : let q = queue_at s (flow_of s.running.ports i j) in q.place + q.count < s.depth + s.depth
   pub within : (p : ℕ) → p < s.depth → flow_of s.running.ports i j * s.depth + p < len
-  pub small : len ≤ mostFlows * mostDepth
+  pub small : len ≤ most_flows * most_depth
 
 pub placed : (s : Switch) (len i j : ℕ) → CanArrive s len i j → Placed s len i j
 placed s len i j can =
     let n = s.running.ports in
     let v = valid s can.valid in
-    let square : n * n ≤ mostFlows = square-small n v.running.few-ports in
-    let flow : flow_of n i j < n * n = flow-below n i j can.board can.head in
+    let square : n * n ≤ most_flows = square_small n v.running.few_ports in
+    let flow : flow_of n i j < n * n = flow_below n i j can.board can.head in
     record {
-      deep = v.few-places;
+      deep = v.few_places;
       few = omega arith;
       room = can.room;
-      once-around = omega (arith, v.queue-place (flow_of n i j) flow, can.room);
+      once_around = omega (arith, v.queue_place (flow_of n i j) flow, can.room);
       within = λ p l. omega (arith, can.store, row_within (flow_of n i j) (n * n) s.depth flow);
-      small = omega (arith, can.store, mul-le-mul square v.few-places);
+      small = omega (arith, can.store, mul-le-mul square v.few_places);
     }

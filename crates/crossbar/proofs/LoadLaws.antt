@@ -5,31 +5,31 @@ use mathlib.Core.Bool.{Bool, true, false, not, ◌&&◌}
 use mathlib.Core.List.{List}
 use lib.Dec.{eqb}
 use borrow.Author.Tests.{not-false, eqb-true, eq-eqb}
-use Rattle.refusal.specs.Chain.{refuseIf, and_then, ifAccepted}
+use Rattle.refusal.specs.Chain.{refuse_if, and_then, if_accepted}
 use Rattle.refusal.specs.declared.Refusal.{Refusal}
 use Rattle.refusal.specs.declared.Refusal.TheVariants.{StateInvalid, PlanMismatch}
 use Rattle.refusal.specs.declared.Verdict.{Verdict}
 use Rattle.refusal.specs.declared.Verdict.TheVariants.{Accepted, Refused}
-use Rattle.refusal.proofs.ChainLaws.{refused-not-accepted, refuse-passed, then-passed}
-use Rattle.plan.specs.Accept.{acceptOf}
-use Rattle.plan.proofs.BelowLaws.{and-true}
+use Rattle.refusal.proofs.ChainLaws.{refused_not_accepted, refuse_passed, then_passed}
+use Rattle.plan.specs.Accept.{accept_of}
+use Rattle.plan.proofs.BelowLaws.{and_true}
 use Rattle.plan.proofs.AcceptLaws.{accepted, accepts}
 use Rattle.planpair.specs.Rates.{overlaid}
-use Rattle.planpair.proofs.RateLaws.{overlaid-twice}
+use Rattle.planpair.proofs.RateLaws.{overlaid_twice}
 use Rattle.crossbar.specs.Valid.{valid_of}
-use Rattle.crossbar.specs.State.{hasWaiting}
-use Rattle.crossbar.specs.Load.{withPlans, loadVerdict, CanLoad, withWaiting, load_of}
-use Rattle.crossbar.specs.FormerLoad.{formerVerdict, formerLoad, AsBefore}
+use Rattle.crossbar.specs.State.{has_waiting}
+use Rattle.crossbar.specs.Load.{with_plans, load_verdict, CanLoad, with_waiting, load_of}
+use Rattle.crossbar.specs.FormerLoad.{former_verdict, former_load, AsBefore}
 use Rattle.crossbar.specs.declared.state.Switch.{Switch}
 use Rattle.crossbar.specs.declared.state.Reply.{Reply}
 
-pub can-load : (s : Switch) (n t : ℕ) (rates : List ℕ) → loadVerdict s n t rates ≡ Accepted → CanLoad s n t rates
-unfolding loadVerdict
-can-load s n t rates e =
-    let first = refuse-passed (not (valid_of s)) _ _ e in
-    let second = then-passed (acceptOf n t rates) _ first.1 in
-    let third = refuse-passed (not (eqb n s.running.ports && eqb t s.running.frame)) _ _ second.1 in
-    let same = and-true (eqb n s.running.ports) (eqb t s.running.frame) (not-false _ third.0) in
+pub can_load : (s : Switch) (n t : ℕ) (rates : List ℕ) → load_verdict s n t rates ≡ Accepted → CanLoad s n t rates
+unfolding load_verdict
+can_load s n t rates e =
+    let first = refuse_passed (not (valid_of s)) _ _ e in
+    let second = then_passed (accept_of n t rates) _ first.1 in
+    let third = refuse_passed (not (eqb n s.running.ports && eqb t s.running.frame)) _ _ second.1 in
+    let same = and_true (eqb n s.running.ports) (eqb t s.running.frame) (not-false _ third.0) in
     record {
       valid = not-false _ first.0;
       plan = accepted n t rates second.0;
@@ -37,8 +37,8 @@ can-load s n t rates e =
       frame = eqb-true t _ same.1;
     }
 
-pub loads : (s : Switch) (n t : ℕ) (rates : List ℕ) → CanLoad s n t rates → loadVerdict s n t rates ≡ Accepted
-unfolding loadVerdict
+pub loads : (s : Switch) (n t : ℕ) (rates : List ℕ) → CanLoad s n t rates → load_verdict s n t rates ≡ Accepted
+unfolding load_verdict
 loads s n t rates can =
     simp (
       can.valid,
@@ -48,8 +48,8 @@ loads s n t rates can =
     )
 
 -- An order that ended in one refusal more: where another verdict came of it, it comes without that refusal too.
-shorter : (a : Bool) (v : Verdict) (b w : Bool) (x y r : Refusal) → let former = refuseIf a x (and_then v (refuseIf b y (refuseIf w r Accepted))) in
-    (former ≡ Refused r → ⊥) → refuseIf a x (and_then v (refuseIf b y Accepted)) ≡ former
+shorter : (a : Bool) (v : Verdict) (b w : Bool) (x y r : Refusal) → let former = refuse_if a x (and_then v (refuse_if b y (refuse_if w r Accepted))) in
+    (former ≡ Refused r → ⊥) → refuse_if a x (and_then v (refuse_if b y Accepted)) ≡ former
 shorter true v b w x y r h = refl
 shorter false (Refused q) b w x y r h = refl
 shorter false Accepted true w x y r h = refl
@@ -57,51 +57,51 @@ shorter false Accepted false true x y r h = absurd (h refl)
 shorter false Accepted false false x y r h = refl
 
 module _ (s : Switch) (n t : ℕ) (rates : List ℕ) where
-  answered-before : (r : Refusal) → (formerVerdict r s n t rates ≡ Refused r → ⊥) → load_of s n t rates ≡ formerLoad r s n t rates
-  unfolding load_of loadVerdict formerLoad formerVerdict
+  answered-before : (r : Refusal) → (former_verdict r s n t rates ≡ Refused r → ⊥) → load_of s n t rates ≡ former_load r s n t rates
+  unfolding load_of load_verdict former_load former_verdict
   answered-before r h =
       let other = not (eqb n s.running.ports && eqb t s.running.frame) in
-      ap (λ (v : Verdict). record { verdict = v; state = ifAccepted v (withWaiting s n t rates) s })
-      (shorter (not (valid_of s)) (acceptOf n t rates) other (hasWaiting s) StateInvalid PlanMismatch r h)
+      ap (λ (v : Verdict). record { verdict = v; state = if_accepted v (with_waiting s n t rates) s })
+      (shorter (not (valid_of s)) (accept_of n t rates) other (has_waiting s) StateInvalid PlanMismatch r h)
 
   pub as_before : AsBefore s n t rates
   as_before =
       record {
-        accepted = λ r e. answered-before r (λ told. refused-not-accepted r (sym told ∙ e));
+        accepted = λ r e. answered-before r (λ told. refused_not_accepted r (sym told ∙ e));
         refused = λ r q e other. answered-before r (λ told. let same : Refused q ≡ Refused r = sym e ∙ told in other cc);
       }
 
 -- "the later plan replaces the waiting one": of two plans laid into a state the second stands, and no trace of the first, also
 -- where the array has places for ports from N up.
-pub waiting-twice : (s : Switch) (n t m u : ℕ) (first second : List ℕ) → n ≡ m → withWaiting (withWaiting s n t first) m u second ≡ withWaiting s m u second
-waiting-twice s n t m u first second e = rw (e, overlaid-twice s.waiting.rates first second (m * m)) refl
+pub waiting_twice : (s : Switch) (n t m u : ℕ) (first second : List ℕ) → n ≡ m → with_waiting (with_waiting s n t first) m u second ≡ with_waiting s m u second
+waiting_twice s n t m u first second e = rw (e, overlaid_twice s.waiting.rates first second (m * m)) refl
 
 -- after two loads that were accepted, the state is that of the second load alone
-pub load-twice : (s : Switch) (n t m u : ℕ) (first second : List ℕ)
-    → loadVerdict s n t first ≡ Accepted → loadVerdict (load_of s n t first).state m u second ≡ Accepted
+pub load_twice : (s : Switch) (n t m u : ℕ) (first second : List ℕ)
+    → load_verdict s n t first ≡ Accepted → load_verdict (load_of s n t first).state m u second ≡ Accepted
     → load_of (load_of s n t first).state m u second ≡ load_of s m u second
 unfolding load_of
-load-twice s n t m u first second e f =
-    let one = can-load s n t first e in
-    let later : loadVerdict (withWaiting s n t first) m u second ≡ Accepted = rw e at f in
-    let two = can-load (withWaiting s n t first) m u second later in
+load_twice s n t m u first second e f =
+    let one = can_load s n t first e in
+    let later : load_verdict (with_waiting s n t first) m u second ≡ Accepted = rw e at f in
+    let two = can_load (with_waiting s n t first) m u second later in
     let alone = loads s m u second (record { valid = one.valid; plan = two.plan; ports = two.ports; frame = two.frame }) in
-    rw (e, later, alone, waiting-twice s n t m u first second (one.ports ∙ sym two.ports)) refl
+    rw (e, later, alone, waiting_twice s n t m u first second (one.ports ∙ sym two.ports)) refl
 
 -- What a reply that says "accepted" tells.
 
-pub load_told : (s : Switch) (n t : ℕ) (rates : List ℕ) {r : Reply} → r ≡ load_of s n t rates → r.verdict ≡ Accepted → loadVerdict s n t rates ≡ Accepted
+pub load_told : (s : Switch) (n t : ℕ) (rates : List ℕ) {r : Reply} → r ≡ load_of s n t rates → r.verdict ≡ Accepted → load_verdict s n t rates ≡ Accepted
 unfolding load_of
 load_told s n t rates is e = sym (ap (λ (x : Reply). x.verdict) is) ∙ e
 
-pub load-state : (s : Switch) (n t : ℕ) (rates : List ℕ) → loadVerdict s n t rates ≡ Accepted → (load_of s n t rates).state ≡ withWaiting s n t rates
+pub load_state : (s : Switch) (n t : ℕ) (rates : List ℕ) → load_verdict s n t rates ≡ Accepted → (load_of s n t rates).state ≡ with_waiting s n t rates
 unfolding load_of
-load-state s n t rates e = rw e refl
+load_state s n t rates e = rw e refl
 
 -- The answer, as the code puts it together from its verdict v.
-module _ (s : Switch) (n t : ℕ) (rates : List ℕ) {v : Verdict} (is : v ≡ loadVerdict s n t rates) where
+module _ (s : Switch) (n t : ℕ) (rates : List ℕ) {v : Verdict} (is : v ≡ load_verdict s n t rates) where
   pub load-accepted : {laid : List ℕ} → v ≡ Accepted → laid ≡ overlaid s.waiting.rates rates (n * n)
-      → ◌≡◌ {A = Reply} (record { verdict = v; state = withPlans s s.running (record { ports = n; frame = t; rates = laid }) 1 }) (load_of s n t rates)
+      → ◌≡◌ {A = Reply} (record { verdict = v; state = with_plans s s.running (record { ports = n; frame = t; rates = laid }) 1 }) (load_of s n t rates)
   unfolding load_of
   load-accepted told laid = rw (laid, ← is, told) refl
 

@@ -5,21 +5,21 @@ use lib.ListN.{length, length-map}
 use mir.Val.{Val}
 use denote.Laws.{Is}
 use denote.Struct.Declared.{row}
-use Rattle.plan.specs.Range.{mostFlows}
+use Rattle.plan.specs.Range.{most_flows}
 use Rattle.planpair.proofs.OwnedLaws.{rates-full}
 use Rattle.crossbar.specs.declared.state.Switch.{Switch}
 use Rattle.crossbar.specs.contracts.state.Switch as switch
 
 -- the arrays of a state have their lengths
 pub record Sized (s : Switch) : Type 0 where
-  pub running : length s.running.rates ≡ mostFlows
-  pub waiting : length s.waiting.rates ≡ mostFlows
-  pub queues : length s.fabric.queues ≡ mostFlows
-  pub points : length s.fabric.crosspoints ≡ mostFlows
+  pub running : length s.running.rates ≡ most_flows
+  pub waiting : length s.waiting.rates ≡ most_flows
+  pub queues : length s.fabric.queues ≡ most_flows
+  pub points : length s.fabric.crosspoints ≡ most_flows
 
 -- those of every state in the code do; `owned` has the fields in the order of the struct
-pub owned-sized : (s : Switch) (vs : List Val) → Is (row switch.the_type) s vs → Sized s
-owned-sized s vs owned =
+pub owned_sized : (s : Switch) (vs : List Val) → Is (row switch.the_type) s vs → Sized s
+owned_sized s vs owned =
     record {
       running = rates-full s.running _ owned.1.1.0;
       waiting = rates-full s.waiting _ owned.1.1.1.0;

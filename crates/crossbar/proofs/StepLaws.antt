@@ -12,32 +12,32 @@ use lib.Seq.{length-take-le}
 use borrow.Author.Tests.{eq-eqb, ne_eqb}
 use Rattle.refusal.specs.declared.Verdict.{Verdict}
 use Rattle.refusal.specs.declared.Verdict.TheVariants.{Accepted}
-use Rattle.plan.specs.Range.{mostPorts, mostFlows}
-use Rattle.plan.specs.Desk.{row_of, deskOf}
+use Rattle.plan.specs.Range.{most_ports, most_flows}
+use Rattle.plan.specs.Desk.{row_of, desk_of}
 use Rattle.plan.specs.declared.Plan.{Plan}
-use Rattle.plan.proofs.BelowLaws.{and-true, lt-or-le}
-use Rattle.plan.proofs.DeskLaws.{desk-row}
-use Rattle.plan.proofs.LineLaws.{square-small}
+use Rattle.plan.proofs.BelowLaws.{and_true, lt_or_le}
+use Rattle.plan.proofs.DeskLaws.{desk_row}
+use Rattle.plan.proofs.LineLaws.{square_small}
 use Rattle.multiplexer.specs.declared.Choice.{Choice}
-use Rattle.multiplexer.specs.Window.{columnOf}
-use Rattle.multiplexer.proofs.PortLaws.{row-length, column-length}
+use Rattle.multiplexer.specs.Window.{column_of}
+use Rattle.multiplexer.proofs.PortLaws.{row_length, column_length}
 use Rattle.planpair.specs.Takeover.{replaced, cleared}
-use Rattle.fabric.specs.Answer.{allIdle}
-use Rattle.side.specs.Choices.{choicesIn, CanChoose, ServedAs}
+use Rattle.fabric.specs.Answer.{all_idle}
+use Rattle.side.specs.Choices.{choices_in, CanChoose, ServedAs}
 use Rattle.side.specs.Columns.{transposed}
-use Rattle.side.specs.Counts.{countsOf, portsBelow}
-use Rattle.fabric.specs.Moves.{roomForAll, CanMoveAll}
+use Rattle.side.specs.Counts.{counts_of, ports_below}
+use Rattle.fabric.specs.Moves.{room_for_all, CanMoveAll}
 use Rattle.fabric.specs.Slot.{run_of}
 use Rattle.side.specs.declared.choices.Side.{Side}
 use Rattle.fabric.specs.declared.slot.AfterSlot.{AfterSlot}
-use Rattle.side.proofs.ChoiceLaws.{served-ext, served-counts, desk-named}
+use Rattle.side.proofs.ChoiceLaws.{served_ext, served_counts, desk_named}
 use Rattle.side.proofs.ColumnLaws.{columns, columns-length, desk-columns}
 use Rattle.fabric.proofs.MoveLaws.{room-none}
-use Rattle.fabric.proofs.SlotLaws.{run_none, none-chooses}
-use Rattle.crossbar.specs.State.{storeFits}
+use Rattle.fabric.proofs.SlotLaws.{run_none, none_chooses}
+use Rattle.crossbar.specs.State.{store_fits}
 use Rattle.crossbar.specs.Valid.{valid_of, IsValid}
-use Rattle.crossbar.specs.Takeover.{takesOver, takeoverOf}
-use Rattle.crossbar.specs.Step.{boardChoices, headChoices, slotMoves, slotSends, hasRoom, endsFrame, afterSlot, slotReply, refusedReply, verdictBy, stepVerdict, step_of, Judged}
+use Rattle.crossbar.specs.Takeover.{takes_over, takeover_of}
+use Rattle.crossbar.specs.Step.{board_choices, head_choices, slot_moves, slot_sends, has_room, ends_frame, after_slot, slot_reply, refused_reply, verdict_by, step_verdict, step_of, Judged}
 use Rattle.crossbar.specs.declared.state.SlotReply.{SlotReply}
 use Rattle.crossbar.specs.declared.state.Switch.{Switch}
 use Rattle.crossbar.proofs.OwnedLaws.{Sized}
@@ -49,25 +49,25 @@ use Rattle.crossbar.proofs.TakeoverLaws.{taken, not_taken, Ruled, ruled}
 
 -- the list that rules the slot
 abbrev pub ruling : Switch → ℕ → List ℕ
-ruling s n = cond (takesOver s) (take (n * n) s.waiting.rates) (take (n * n) s.running.rates)
+ruling s n = cond (takes_over s) (take (n * n) s.waiting.rates) (take (n * n) s.running.rates)
 
-module _ (s : Switch) (size : Sized s) (n : ℕ) (few : n ≤ mostPorts) where
+module _ (s : Switch) (size : Sized s) (n : ℕ) (few : n ≤ most_ports) where
   pub running-part : length (take (n * n) s.running.rates) ≡ n * n
-  running-part = length-take-le (n * n) s.running.rates (omega (arith, size.running, square-small n few))
+  running-part = length-take-le (n * n) s.running.rates (omega (arith, size.running, square_small n few))
 
   pub waiting-part : length (take (n * n) s.waiting.rates) ≡ n * n
-  waiting-part = length-take-le (n * n) s.waiting.rates (omega (arith, size.waiting, square-small n few))
+  waiting-part = length-take-le (n * n) s.waiting.rates (omega (arith, size.waiting, square_small n few))
 
   pub ruling-part : length (ruling s n) ≡ n * n
-  ruling-part = go (takesOver s)
+  ruling-part = go (takes_over s)
     where
       go : (b : Bool) → length (cond b (take (n * n) s.waiting.rates) (take (n * n) s.running.rates)) ≡ n * n
       go true = waiting-part
       go false = running-part
 
 -- its columns, as the rows of an array
-abbrev pub columnsIn : Switch → ℕ → List ℕ → List ℕ
-columnsIn s n zeros = columns (ruling s n) n zeros
+abbrev pub columns_in : Switch → ℕ → List ℕ → List ℕ
+columns_in s n zeros = columns (ruling s n) n zeros
 
 -- A slot in which all ports of a valid state choose.
 module _ (s : Switch) (size : Sized s) (v : IsValid s) (store : List ℕ) (boards heads : Side) where
@@ -78,73 +78,73 @@ module _ (s : Switch) (size : Sized s) (v : IsValid s) (store : List ℕ) (board
   T = s.running.frame
 
   abbrev u : Switch
-  u = takeoverOf s
+  u = takeover_of s
 
   r : Ruled s u
   r = ruled s size v
 
-  few : n ≤ mostPorts
-  few = v.running.few-ports
+  few : n ≤ most_ports
+  few = v.running.few_ports
 
   rows : (p : ℕ) → p < n → length (row_of (ruling s n) n p) ≡ n
-  rows p l = row-length (ruling s n) n p (ruling-part s size n few) l
+  rows p l = row_length (ruling s n) n p (ruling-part s size n few) l
 
-  module _ (by-desk : ServedAs (λ p. deskOf (take (n * n) s.running.rates) (take (n * n) s.waiting.rates) n p (takesOver s)) s.fabric.boards T s.slot n boards) where
+  module _ (by-desk : ServedAs (λ p. desk_of (take (n * n) s.running.rates) (take (n * n) s.waiting.rates) n p (takes_over s)) s.fabric.boards T s.slot n boards) where
     by_rows : ServedAs (row_of (ruling s n) n) s.fabric.boards T s.slot n boards
     by_rows =
-        served-ext _ _ _ _ _ _ _
-        (λ p l. desk-row _ _ n p (takesOver s) few l (running-part s size n few) (waiting-part s size n few))
+        served_ext _ _ _ _ _ _ _
+        (λ p l. desk_row _ _ n p (takes_over s) few l (running-part s size n few) (waiting-part s size n few))
         by-desk
 
-    boards-are : choicesIn boards.turns ≡ boardChoices u
-    unfolding boardChoices
+    boards-are : choices_in boards.turns ≡ board_choices u
+    unfolding board_choices
     boards-are = by_rows.choices ∙ (rw (r.rates, r.ports, r.frame, r.slot, r.fabric) refl)
 
     -- number 13 is judged of the plan after a takeover
-    pub room-is : roomForAll n (choicesIn boards.turns) s.fabric.queues s.fabric.crosspoints ≡ hasRoom u
+    pub room-is : room_for_all n (choices_in boards.turns) s.fabric.queues s.fabric.crosspoints ≡ has_room u
     room-is = rw (boards-are, r.ports, r.fabric) refl
 
-    module _ (zeros : List ℕ) (full : length zeros ≡ mostFlows)
-        (by-columns : ServedAs (λ p. deskOf (columns (ruling s n) n zeros) (columns (ruling s n) n zeros) n p false) s.fabric.heads T s.slot n heads)
+    module _ (zeros : List ℕ) (full : length zeros ≡ most_flows)
+        (by-columns : ServedAs (λ p. desk_of (columns (ruling s n) n zeros) (columns (ruling s n) n zeros) n p false) s.fabric.heads T s.slot n heads)
       where
-        by_heads : ServedAs (columnOf (ruling s n) n) s.fabric.heads T s.slot n heads
-        by_heads = served-ext _ _ _ _ _ _ _ (λ p l. desk-columns (ruling s n) n zeros few full p l) by-columns
+        by_heads : ServedAs (column_of (ruling s n) n) s.fabric.heads T s.slot n heads
+        by_heads = served_ext _ _ _ _ _ _ _ (λ p l. desk-columns (ruling s n) n zeros few full p l) by-columns
 
-        heads-are : choicesIn heads.turns ≡ headChoices u
-        unfolding headChoices
+        heads-are : choices_in heads.turns ≡ head_choices u
+        unfolding head_choices
         heads-are = by_heads.choices ∙ (rw (r.rates, r.ports, r.frame, r.slot, r.fabric) refl)
 
-        board-counts : portsBelow boards.ports s.fabric.boards n ≡ countsOf n (eqb (s.slot + 1) T) (boardChoices u) s.fabric.boards n
+        board-counts : ports_below boards.ports s.fabric.boards n ≡ counts_of n (eqb (s.slot + 1) T) (board_choices u) s.fabric.boards n
         board-counts =
-            served-counts _ _ T s.slot n boards few rows by_rows
-            ∙ ap (λ (c : List Choice). countsOf n (eqb (s.slot + 1) T) c s.fabric.boards n) (sym by_rows.choices ∙ boards-are)
+            served_counts _ _ T s.slot n boards few rows by_rows
+            ∙ ap (λ (c : List Choice). counts_of n (eqb (s.slot + 1) T) c s.fabric.boards n) (sym by_rows.choices ∙ boards-are)
 
-        head-counts : portsBelow heads.ports s.fabric.heads n ≡ countsOf n (eqb (s.slot + 1) T) (headChoices u) s.fabric.heads n
+        head-counts : ports_below heads.ports s.fabric.heads n ≡ counts_of n (eqb (s.slot + 1) T) (head_choices u) s.fabric.heads n
         head-counts =
-            served-counts _ _ T s.slot n heads few (λ p l. column-length (ruling s n) n p) by_heads
-            ∙ ap (λ (c : List Choice). countsOf n (eqb (s.slot + 1) T) c s.fabric.heads n) (sym by_heads.choices ∙ heads-are)
+            served_counts _ _ T s.slot n heads few (λ p l. column_length (ruling s n) n p) by_heads
+            ∙ ap (λ (c : List Choice). counts_of n (eqb (s.slot + 1) T) c s.fabric.heads n) (sym by_heads.choices ∙ heads-are)
 
         pub ran : run_of n s.depth store boards heads s.fabric
-            ≡ record { fabric = (afterSlot u store).fabric; moves = (slotMoves u store).ports; sends = (slotSends u store).ports }
-        unfolding afterSlot
+            ≡ record { fabric = (after_slot u store).fabric; moves = (slot_moves u store).ports; sends = (slot_sends u store).ports }
+        unfolding after_slot
         ran = rw (boards-are, heads-are, board-counts, head-counts, r.ports, r.frame, r.depth, r.slot, r.fabric) refl
 
-some-square : (n k : ℕ) → k < n * n → 1 ≤ n
-some-square zero k l = absurd (omega arith)
-some-square (suc n) k l = omega arith
+some_square : (n k : ℕ) → k < n * n → 1 ≤ n
+some_square zero k l = absurd (omega arith)
+some_square (suc n) k l = omega arith
 
 -- What is known once 12 and 7 are judged.
 module _ (s : Switch) (len n : ℕ) (valid? fits : Bool) (j : Judged s len n valid? fits) where
   -- the state is valid, the store has its length, and all ports choose
   pub record Fits : Type 0 where
     pub passed : valid_of s ≡ true
-    pub fitting : storeFits s.running.ports s.depth len ≡ true
+    pub fitting : store_fits s.running.ports s.depth len ≡ true
     pub all : n ≡ s.running.ports
 
   fits-well : fits ≡ true → Fits
   fits-well e =
-      let both = and-true valid? (storeFits s.running.ports s.depth len) (sym j.fits-is ∙ e) in
-      record { passed = sym j.valid-is ∙ both.0; fitting = both.1; all = j.choosing ∙ (rw e refl) }
+      let both = and_true valid? (store_fits s.running.ports s.depth len) (sym j.fits_is ∙ e) in
+      record { passed = sym j.valid_is ∙ both.0; fitting = both.1; all = j.choosing ∙ (rw e refl) }
 
   pub none-choose : fits ≡ false → n ≡ 0
   none-choose e = j.choosing ∙ (rw e refl)
@@ -156,31 +156,31 @@ module _ (s : Switch) (len n : ℕ) (valid? fits : Bool) (j : Judged s len n val
       go true e = fits-well e
       go false e = absurd (omega (arith, none-choose e))
 
-  pub few-choose : n ≤ mostPorts
+  pub few-choose : n ≤ most_ports
   few-choose = go fits refl
     where
-      go : (b : Bool) → fits ≡ b → n ≤ mostPorts
-      go true e = let f = fits-well e in omega (arith, f.all, (valid s f.passed).running.few-ports)
+      go : (b : Bool) → fits ≡ b → n ≤ most_ports
+      go true e = let f = fits-well e in omega (arith, f.all, (valid s f.passed).running.few_ports)
       go false e = omega (arith, none-choose e)
 
 -- The step, by what its tests show.
 module _ (s : Switch) (store : List ℕ) where
-  step-invalid : valid_of s ≡ false → refusedReply s (verdictBy false false true) ≡ step_of s store
-  unfolding step_of stepVerdict
+  step-invalid : valid_of s ≡ false → refused_reply s (verdict_by false false true) ≡ step_of s store
+  unfolding step_of step_verdict
   step-invalid e = simp e
 
-  step-misfit : valid_of s ≡ true → storeFits s.running.ports s.depth (length store) ≡ false → refusedReply s (verdictBy true false true) ≡ step_of s store
-  unfolding step_of stepVerdict
+  step-misfit : valid_of s ≡ true → store_fits s.running.ports s.depth (length store) ≡ false → refused_reply s (verdict_by true false true) ≡ step_of s store
+  unfolding step_of step_verdict
   step-misfit e f = simp (e, f)
 
-  step-full : valid_of s ≡ true → storeFits s.running.ports s.depth (length store) ≡ true → hasRoom (takeoverOf s) ≡ false
-      → refusedReply s (verdictBy true true false) ≡ step_of s store
-  unfolding step_of stepVerdict
+  step-full : valid_of s ≡ true → store_fits s.running.ports s.depth (length store) ≡ true → has_room (takeover_of s) ≡ false
+      → refused_reply s (verdict_by true true false) ≡ step_of s store
+  unfolding step_of step_verdict
   step-full e f g = simp (e, f, g)
 
-  pub step-done : valid_of s ≡ true → storeFits s.running.ports s.depth (length store) ≡ true → hasRoom (takeoverOf s) ≡ true
-      → slotReply (takeoverOf s) store ≡ step_of s store
-  unfolding step_of stepVerdict
+  pub step-done : valid_of s ≡ true → store_fits s.running.ports s.depth (length store) ≡ true → has_room (takeover_of s) ≡ true
+      → slot_reply (takeover_of s) store ≡ step_of s store
+  unfolding step_of step_verdict
   step-done e f g = simp (e, f, g)
 
 -- The slot, as the code puts it together: of the n ports that choose, m act.
@@ -188,20 +188,20 @@ module _
     (s : Switch) (store : List ℕ) (size : Sized s)
     (n : ℕ) (valid? fits : Bool) (j : Judged s (length store) n valid? fits)
     (boards : Side)
-    (by-desk : ServedAs (λ p. deskOf (take (n * n) s.running.rates) (take (n * n) s.waiting.rates) n p (takesOver s)) s.fabric.boards s.running.frame s.slot n boards)
+    (by-desk : ServedAs (λ p. desk_of (take (n * n) s.running.rates) (take (n * n) s.waiting.rates) n p (takes_over s)) s.fabric.boards s.running.frame s.slot n boards)
   where
     abbrev board-choices : List Choice
-    board-choices = choicesIn boards.turns
+    board-choices = choices_in boards.turns
 
-    few-ports : n ≤ mostPorts
-    few-ports = few-choose s (length store) n valid? fits j
+    few_ports : n ≤ most_ports
+    few_ports = few-choose s (length store) n valid? fits j
 
     pub boards-can : CanChoose n board-choices
     boards-can =
         subst (CanChoose n) (sym by-desk.choices)
-        (desk-named _ _ (takesOver s) s.fabric.boards s.running.frame s.slot n few-ports (running-part s size n few-ports) (waiting-part s size n few-ports))
+        (desk_named _ _ (takes_over s) s.fabric.boards s.running.frame s.slot n few_ports (running-part s size n few_ports) (waiting-part s size n few_ports))
 
-    module _ (room : Bool) (room-test : room ≡ roomForAll n board-choices s.fabric.queues s.fabric.crosspoints) (m : ℕ) (acting-is : m ≡ cond room n 0) where
+    module _ (room : Bool) (room-test : room ≡ room_for_all n board-choices s.fabric.queues s.fabric.crosspoints) (m : ℕ) (acting-is : m ≡ cond room n 0) where
       -- where a port acts, the step is accepted
       pub record Acts : Type 0 where
         pub fit : Fits s (length store) n valid? fits j
@@ -219,11 +219,11 @@ module _
               record { fit = f; rules = valid s f.passed; roomy = e; same = same }
           go false e = let none : m ≡ 0 = acting-is ∙ (rw e refl) in absurd (omega arith)
 
-      pub few-act : m ≤ mostPorts
+      pub few-act : m ≤ most_ports
       few-act = go room refl
         where
-          go : (b : Bool) → room ≡ b → m ≤ mostPorts
-          go true e = let same : m ≡ n = acting-is ∙ (rw e refl) in omega (arith, few-ports)
+          go : (b : Bool) → room ≡ b → m ≤ most_ports
+          go true e = let same : m ≡ n = acting-is ∙ (rw e refl) in omega (arith, few_ports)
           go false e = let none : m ≡ 0 = acting-is ∙ (rw e refl) in omega arith
 
       pub moves-can : CanMoveAll m s.depth (length store) board-choices s.fabric.queues s.fabric.crosspoints
@@ -238,49 +238,49 @@ module _
               rw same
               record {
                 choosing = boards-can;
-                some-depth = λ l. (valid s (f l).passed).some-place;
-                few-cells = λ l. (valid s (f l).passed).few-places;
+                some_depth = λ l. (valid s (f l).passed).some_place;
+                few_cells = λ l. (valid s (f l).passed).few_places;
                 fits = λ l. store_length _ _ _ (f l).fitting ∙ (rw (f l).all refl);
                 room = sym room-test ∙ e;
-                places = λ k l. let w = f (some-square n k l) in (valid s w.passed).queue-place k (rw w.all at l);
+                places = λ k l. let w = f (some_square n k l) in (valid s w.passed).queue_place k (rw w.all at l);
               }
           go false e =
               let none : m ≡ 0 = acting-is ∙ (rw e refl) in
               rw none
               record {
-                choosing = none-chooses board-choices;
-                some-depth = λ l. absurd (omega arith);
-                few-cells = λ l. absurd (omega arith);
+                choosing = none_chooses board-choices;
+                some_depth = λ l. absurd (omega arith);
+                few_cells = λ l. absurd (omega arith);
                 fits = λ l. absurd (omega arith);
                 room = room-none 0 board-choices s.fabric.queues s.fabric.crosspoints;
                 places = λ k l. absurd (omega arith);
               }
 
       module _
-          (zeros columns : List ℕ) (full : length zeros ≡ mostFlows) (are-columns : columns ≡ transposed (ruling s n) n zeros n)
+          (zeros columns : List ℕ) (full : length zeros ≡ most_flows) (are-columns : columns ≡ transposed (ruling s n) n zeros n)
           (heads : Side)
-          (by-columns : ServedAs (λ p. deskOf (take (m * m) columns) (take (m * m) columns) m p false) s.fabric.heads s.running.frame s.slot m heads)
+          (by-columns : ServedAs (λ p. desk_of (take (m * m) columns) (take (m * m) columns) m p false) s.fabric.heads s.running.frame s.slot m heads)
         where
           -- the heads that act are all, or none
-          heads-by : m ≡ n → ServedAs (λ p. deskOf (columnsIn s n zeros) (columnsIn s n zeros) n p false) s.fabric.heads s.running.frame s.slot n heads
+          heads-by : m ≡ n → ServedAs (λ p. desk_of (columns_in s n zeros) (columns_in s n zeros) n p false) s.fabric.heads s.running.frame s.slot n heads
           heads-by same = rw (are-columns, same) at by-columns
 
-          pub heads-can : CanChoose m (choicesIn heads.turns)
+          pub heads-can : CanChoose m (choices_in heads.turns)
           heads-can = go room refl
             where
-              go : (b : Bool) → room ≡ b → CanChoose m (choicesIn heads.turns)
+              go : (b : Bool) → room ≡ b → CanChoose m (choices_in heads.turns)
               go true e =
                   let same : m ≡ n = acting-is ∙ (rw e refl) in
-                  let long = columns-length (ruling s n) n zeros few-ports full in
-                  rw (same, (heads-by same).choices) (desk-named _ _ false s.fabric.heads s.running.frame s.slot n few-ports long long)
+                  let long = columns-length (ruling s n) n zeros few_ports full in
+                  rw (same, (heads-by same).choices) (desk_named _ _ false s.fabric.heads s.running.frame s.slot n few_ports long long)
               go false e =
                   let none : m ≡ 0 = acting-is ∙ (rw e refl) in
-                  rw none (none-chooses (choicesIn heads.turns))
+                  rw none (none_chooses (choices_in heads.turns))
 
           module _
               (run : AfterSlot) (run_is : run ≡ run_of m s.depth store boards heads s.fabric)
               (slot : ℕ) (slot_is : slot ≡ cond (eqb m 0) s.slot (cond (eqb (s.slot + 1) s.running.frame) 0 (s.slot + 1)))
-              (verdict : Verdict) (verdict-is : verdict ≡ verdictBy valid? fits room)
+              (verdict : Verdict) (verdict-is : verdict ≡ verdict_by valid? fits room)
             where
               -- what the code answers, with these plans
               abbrev answer : Plan → Plan → ℕ → SlotReply
@@ -297,49 +297,49 @@ module _
                 all : n ≡ s.running.ports
                 all = a.fit.all
 
-                by-rows' : ServedAs (λ p. deskOf (take (s.running.ports * s.running.ports) s.running.rates) (take (s.running.ports * s.running.ports) s.waiting.rates) s.running.ports p (takesOver s)) s.fabric.boards s.running.frame s.slot s.running.ports boards
+                by-rows' : ServedAs (λ p. desk_of (take (s.running.ports * s.running.ports) s.running.rates) (take (s.running.ports * s.running.ports) s.waiting.rates) s.running.ports p (takes_over s)) s.fabric.boards s.running.frame s.slot s.running.ports boards
                 by-rows' = rw all at by-desk
 
-                ran' : run ≡ record { fabric = (afterSlot (takeoverOf s) store).fabric; moves = (slotMoves (takeoverOf s) store).ports; sends = (slotSends (takeoverOf s) store).ports }
+                ran' : run ≡ record { fabric = (after_slot (takeover_of s) store).fabric; moves = (slot_moves (takeover_of s) store).ports; sends = (slot_sends (takeover_of s) store).ports }
                 ran' = run_is ∙ (rw (a.same, all) (ran s size a.rules store boards heads by-rows' zeros full (rw all at (heads-by a.same))))
 
-              accepted : 1 ≤ m → answer (takeoverOf s).running (takeoverOf s).waiting (takeoverOf s).waits ≡ step_of s store
-              unfolding afterSlot
+              accepted : 1 ≤ m → answer (takeover_of s).running (takeover_of s).waiting (takeover_of s).waits ≡ step_of s store
+              unfolding after_slot
               accepted l = whole ∙ step-done s store a.fit.passed a.fit.fitting roomy
                 where
                   a : Acts
                   a = acts l
 
-                  k : Ruled s (takeoverOf s)
+                  k : Ruled s (takeover_of s)
                   k = ruled s size a.rules
 
-                  roomy : hasRoom (takeoverOf s) ≡ true
+                  roomy : has_room (takeover_of s) ≡ true
                   roomy = sym (room-is s size a.rules store boards heads (by-rows' a)) ∙ (rw (← all a) (sym room-test ∙ a.roomy))
 
                   told : verdict ≡ Accepted
                   told =
-                      let v : valid? ≡ true = j.valid-is ∙ a.fit.passed in
-                      let f : fits ≡ true = j.fits-is ∙ (rw (v, a.fit.fitting) refl) in
+                      let v : valid? ≡ true = j.valid_is ∙ a.fit.passed in
+                      let f : fits ≡ true = j.fits_is ∙ (rw (v, a.fit.fitting) refl) in
                       verdict-is ∙ (rw (v, f, a.roomy) refl)
 
-                  next : slot ≡ cond (endsFrame (takeoverOf s)) 0 ((takeoverOf s).slot + 1)
+                  next : slot ≡ cond (ends_frame (takeover_of s)) 0 ((takeover_of s).slot + 1)
                   next = slot_is ∙ (rw (ne_eqb m 0 (λ e. omega arith), k.slot, k.frame) refl)
 
-                  whole : answer (takeoverOf s).running (takeoverOf s).waiting (takeoverOf s).waits ≡ slotReply (takeoverOf s) store
+                  whole : answer (takeover_of s).running (takeover_of s).waiting (takeover_of s).waits ≡ slot_reply (takeover_of s) store
                   whole = rw (ran' a, told, next, k.depth) refl
 
               refused : m ≡ 0 → answer s.running s.waiting s.waits ≡ step_of s store
               refused none = unchanged ∙ by_tests valid? fits room refl refl refl
                 where
-                  unchanged : answer s.running s.waiting s.waits ≡ refusedReply s (verdictBy valid? fits room)
+                  unchanged : answer s.running s.waiting s.waits ≡ refused_reply s (verdict_by valid? fits room)
                   unchanged =
-                      let still : run ≡ record { fabric = s.fabric; moves = allIdle; sends = allIdle } = run_is ∙ (rw none (run_none _ _ _ _ _)) in
+                      let still : run ≡ record { fabric = s.fabric; moves = all_idle; sends = all_idle } = run_is ∙ (rw none (run_none _ _ _ _ _)) in
                       let here : slot ≡ s.slot = slot_is ∙ (rw (eq-eqb m 0 none) refl) in
                       rw (still, here, verdict-is) refl
 
-                  by_tests : (a b c : Bool) → valid? ≡ a → fits ≡ b → room ≡ c → refusedReply s (verdictBy a b c) ≡ step_of s store
-                  by_tests false b c ev ef er = step-invalid s store (sym j.valid-is ∙ ev)
-                  by_tests true false c ev ef er = step-misfit s store (sym j.valid-is ∙ ev) (sym (rw ev at j.fits-is) ∙ ef)
+                  by_tests : (a b c : Bool) → valid? ≡ a → fits ≡ b → room ≡ c → refused_reply s (verdict_by a b c) ≡ step_of s store
+                  by_tests false b c ev ef er = step-invalid s store (sym j.valid_is ∙ ev)
+                  by_tests true false c ev ef er = step-misfit s store (sym j.valid_is ∙ ev) (sym (rw ev at j.fits_is) ∙ ef)
                   by_tests true true false ev ef er =
                       let f = fits-well s (length store) n valid? fits j ef in
                       let r = rw f.all at by-desk in
@@ -348,17 +348,17 @@ module _
                   by_tests true true true ev ef er =
                       let f = fits-well s (length store) n valid? fits j ef in
                       let same : m ≡ n = acting-is ∙ (rw er refl) in
-                      absurd (omega (arith, f.all, (valid s f.passed).running.some-port))
+                      absurd (omega (arith, f.all, (valid s f.passed).running.some_port))
 
               -- a plan takes over in an accepted step
-              pub step-takes : takesOver s ≡ true → 1 ≤ m → answer (replaced s.running s.waiting) (cleared s.waiting) 0 ≡ step_of s store
+              pub step-takes : takes_over s ≡ true → 1 ≤ m → answer (replaced s.running s.waiting) (cleared s.waiting) 0 ≡ step_of s store
               step-takes e l = rw (taken s e) at (accepted l)
 
               -- otherwise the plans stay
-              pub step_keeps : (takesOver s && not (eqb m 0)) ≡ false → answer s.running s.waiting s.waits ≡ step_of s store
-              step_keeps = go (takesOver s) refl (lt-or-le 0 m)
+              pub step_keeps : (takes_over s && not (eqb m 0)) ≡ false → answer s.running s.waiting s.waits ≡ step_of s store
+              step_keeps = go (takes_over s) refl (lt_or_le 0 m)
                 where
-                  go : (b : Bool) → takesOver s ≡ b → (0 < m) ⊎ (m ≤ 0) → (b && not (eqb m 0)) ≡ false → answer s.running s.waiting s.waits ≡ step_of s store
+                  go : (b : Bool) → takes_over s ≡ b → (0 < m) ⊎ (m ≤ 0) → (b && not (eqb m 0)) ≡ false → answer s.running s.waiting s.waits ≡ step_of s store
                   go b e (inr h) none = refused (omega arith)
                   go false e (inl h) none = rw (not_taken s e) at (accepted h)
                   go true e (inl h) none =

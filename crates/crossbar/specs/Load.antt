@@ -1,19 +1,19 @@
 -- "A load puts an accepted plan in waiting", and "the later plan replaces the waiting one" (L5). Order: 12, 1 to 5, 8. Only
 -- the waiting plan's N, T and rates for ports below N are written.
 use Rattle.std.specs.Prelude.{ℕ, ◌*◌, ◌≡◌, true, not, ◌&&◌, List, eqb}
-use Rattle.refusal.specs.Chain.{refuseIf, and_then, ifAccepted}
+use Rattle.refusal.specs.Chain.{refuse_if, and_then, if_accepted}
 use Rattle.refusal.specs.declared.Refusal.TheVariants.{StateInvalid, PlanMismatch}
 use Rattle.refusal.specs.declared.Verdict.{Verdict}
 use Rattle.refusal.specs.declared.Verdict.TheVariants.{Accepted}
-use Rattle.plan.specs.Accept.{acceptOf, IsPlan}
+use Rattle.plan.specs.Accept.{accept_of, IsPlan}
 use Rattle.plan.specs.declared.Plan.{Plan}
 use Rattle.crossbar.specs.Valid.{valid_of}
 use Rattle.planpair.specs.Rates.{overlaid}
 use Rattle.crossbar.specs.declared.state.Switch.{Switch}
 use Rattle.crossbar.specs.declared.state.Reply.{Reply}
 
-abbrev pub withPlans : Switch → Plan → Plan → ℕ → Switch
-withPlans s running waiting waits =
+abbrev pub with_plans : Switch → Plan → Plan → ℕ → Switch
+with_plans s running waiting waits =
     record {
       running = running;
       waiting = waiting;
@@ -23,11 +23,11 @@ withPlans s running waiting waits =
       fabric = s.fabric;
     }
 
-unfoldable pub loadVerdict : Switch → ℕ → ℕ → List ℕ → Verdict
-loadVerdict s n t rates =
-    refuseIf (not (valid_of s)) StateInvalid
-    (and_then (acceptOf n t rates)
-    (refuseIf (not (eqb n s.running.ports && eqb t s.running.frame)) PlanMismatch
+unfoldable pub load_verdict : Switch → ℕ → ℕ → List ℕ → Verdict
+load_verdict s n t rates =
+    refuse_if (not (valid_of s)) StateInvalid
+    (and_then (accept_of n t rates)
+    (refuse_if (not (eqb n s.running.ports && eqb t s.running.frame)) PlanMismatch
     Accepted))
 
 -- When a load is accepted. proofs/LoadLaws.antt has that it is then, and only then.
@@ -38,13 +38,13 @@ pub record CanLoad (s : Switch) (n t : ℕ) (rates : List ℕ) : Type 0 where
   pub frame : t ≡ s.running.frame
 
 -- a state with a plan laid into its waiting one
-abbrev pub withWaiting : Switch → ℕ → ℕ → List ℕ → Switch
-withWaiting s n t rates = withPlans s s.running (record { ports = n; frame = t; rates = overlaid s.waiting.rates rates (n * n) }) 1
+abbrev pub with_waiting : Switch → ℕ → ℕ → List ℕ → Switch
+with_waiting s n t rates = with_plans s s.running (record { ports = n; frame = t; rates = overlaid s.waiting.rates rates (n * n) }) 1
 
 unfoldable pub load_of : Switch → ℕ → ℕ → List ℕ → Reply
 load_of s n t rates =
-    let v = loadVerdict s n t rates in
-    record { verdict = v; state = ifAccepted v (withWaiting s n t rates) s }
+    let v = load_verdict s n t rates in
+    record { verdict = v; state = if_accepted v (with_waiting s n t rates) s }
 
 -- what `load` ensures
 abbrev pub Loads : Switch → ℕ → ℕ → List ℕ → Reply → Type 0

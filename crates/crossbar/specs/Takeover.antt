@@ -2,12 +2,12 @@
 -- ports below N in the state are 0."
 use Rattle.std.specs.Prelude.{Bool, cond, ◌&&◌, eqb}
 use Rattle.planpair.specs.Takeover.{replaced, cleared}
-use Rattle.crossbar.specs.State.{hasWaiting}
-use Rattle.crossbar.specs.Load.{withPlans}
+use Rattle.crossbar.specs.State.{has_waiting}
+use Rattle.crossbar.specs.Load.{with_plans}
 use Rattle.crossbar.specs.declared.state.Switch.{Switch}
 
-abbrev pub takesOver : Switch → Bool
-takesOver s = eqb s.slot 0 && hasWaiting s
+abbrev pub takes_over : Switch → Bool
+takes_over s = eqb s.slot 0 && has_waiting s
 
-unfoldable pub takeoverOf : Switch → Switch
-takeoverOf s = cond (takesOver s) (withPlans s (replaced s.running s.waiting) (cleared s.waiting) 0) s
+unfoldable pub takeover_of : Switch → Switch
+takeover_of s = cond (takes_over s) (with_plans s (replaced s.running s.waiting) (cleared s.waiting) 0) s

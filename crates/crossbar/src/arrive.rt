@@ -1,6 +1,6 @@
 // The arrival of a cell.
 ghost use Rattle.std.specs.Prelude.{◌≡◌};
-ghost use Rattle.crossbar.specs.Arrive.{arriveVerdict, Arrives};
+ghost use Rattle.crossbar.specs.Arrive.{arrive_verdict, Arrives};
 
 use crate::state::{Reply, Switch};
 use crate::valid::store_fits;
@@ -10,7 +10,7 @@ use refusal::{Refusal, Verdict};
 
 impl Switch {
     fn arrive_verdict(self, len: usize, i: usize, j: usize) -> Verdict
-        ensures { result ≡ arriveVerdict self len i j }
+        ensures { result ≡ arrive_verdict self len i j }
     {
         if !self.is_valid() {
             return Verdict::Refused(Refusal::StateInvalid);

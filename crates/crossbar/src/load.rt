@@ -1,6 +1,6 @@
 // The load of a plan.
 ghost use Rattle.std.specs.Prelude.{◌≡◌};
-ghost use Rattle.crossbar.specs.Load.{loadVerdict, Loads};
+ghost use Rattle.crossbar.specs.Load.{load_verdict, Loads};
 
 use crate::state::{Reply, Switch};
 use plan::Plan;
@@ -10,7 +10,7 @@ use refusal::{Refusal, Verdict};
 
 impl Switch {
     fn load_verdict(self, n: usize, t: u32, rates: &[u16]) -> Verdict
-        ensures { result ≡ loadVerdict self n t rates.now }
+        ensures { result ≡ load_verdict self n t rates.now }
     {
         if !self.is_valid() {
             return Verdict::Refused(Refusal::StateInvalid);

@@ -1,6 +1,6 @@
 // The start of a switch.
 ghost use Rattle.std.specs.Prelude.{◌≡◌};
-ghost use Rattle.crossbar.specs.Start.{freshWith, startVerdict, Starts};
+ghost use Rattle.crossbar.specs.Start.{fresh_with, start_verdict, Starts};
 
 use crate::state::{Reply, Switch};
 use crate::valid::{depth_in_range, store_fits};
@@ -15,7 +15,7 @@ use refusal::{Refusal, Verdict};
 
 // A state that runs a plan, with no cell and no service.
 fn fresh_with(plan: Plan, depth: usize) -> Switch
-    ensures { result ≡ freshWith plan depth }
+    ensures { result ≡ fresh_with plan depth }
 {
     let cells = [0u32; 2];
     let point = Crosspoint {
@@ -46,7 +46,7 @@ fn fresh_with(plan: Plan, depth: usize) -> Switch
 
 // Number 1 to 5 by the plan, then 6 and 7.
 fn start_verdict(n: usize, t: u32, rates: &[u16], depth: usize, len: usize) -> Verdict
-    ensures { result ≡ startVerdict n t rates.now depth len }
+    ensures { result ≡ start_verdict n t rates.now depth len }
 {
     let verdict = accept(n, t, rates);
     let Verdict::Accepted = verdict else {

@@ -2,13 +2,13 @@
 // through them the compiler copies the state no more than it has to.
 ghost use Rattle.std.specs.Prelude.{true, cond, ◌&&◌, ◌≡◌, ◌+◌, ◌*◌, ◌≤◌, eqb, length};
 ghost use Rattle.refusal.specs.declared.Verdict.TheVariants.{Accepted};
-ghost use Rattle.plan.specs.Range.{mostPorts};
+ghost use Rattle.plan.specs.Range.{most_ports};
 ghost use Rattle.plan.specs.Flag.{is_set};
-ghost use Rattle.fabric.specs.Flow.{mostDepth};
+ghost use Rattle.fabric.specs.Flow.{most_depth};
 ghost use Rattle.side.specs.Columns.{transposed};
-ghost use Rattle.crossbar.specs.State.{storeFits};
-ghost use Rattle.crossbar.specs.Takeover.{takeoverOf};
-ghost use Rattle.crossbar.specs.Step.{verdictBy, Judged, Steps, IdlesOnly};
+ghost use Rattle.crossbar.specs.State.{store_fits};
+ghost use Rattle.crossbar.specs.Takeover.{takeover_of};
+ghost use Rattle.crossbar.specs.Step.{verdict_by, Judged, Steps, IdlesOnly};
 
 use crate::state::{SlotReply, Switch};
 use crate::valid::store_fits;
@@ -31,7 +31,7 @@ fn acting(n: usize, go: bool) -> usize
 
 // 12, 7 and 13, in this order.
 fn verdict_by(valid: bool, fits: bool, room: bool) -> Verdict
-    ensures { result ≡ verdictBy valid fits room }
+    ensures { result ≡ verdict_by valid fits room }
 {
     if !valid {
         return Verdict::Refused(Refusal::StateInvalid);
@@ -47,8 +47,8 @@ fn verdict_by(valid: bool, fits: bool, room: bool) -> Verdict
 
 // Whether a valid state has a store of its length.
 fn fits_if_valid(valid: bool, n: usize, depth: usize, len: usize) -> bool
-    requires { valid ≡ true → (n ≤ mostPorts) × (depth ≤ mostDepth) }
-    ensures { result ≡ (valid && storeFits n depth len) }
+    requires { valid ≡ true → (n ≤ most_ports) × (depth ≤ most_depth) }
+    ensures { result ≡ (valid && store_fits n depth len) }
 {
     if !valid {
         return false;
@@ -84,7 +84,7 @@ fn columns_of<'a>(
     n: usize,
     columns: &mut [u16; MOST_FLOWS],
 )
-    requires { (n ≤ mostPorts) × (length running.now ≡ n * n) × (length waiting.now ≡ n * n) }
+    requires { (n ≤ most_ports) × (length running.now ≡ n * n) × (length waiting.now ≡ n * n) }
     ensures { columns.new ≡ transposed (cond takeover waiting.now running.now) n columns.old n }
 {
     transpose(ruling(running, waiting, takeover), n, columns);
@@ -156,7 +156,7 @@ impl Switch {
     // One slot: the takeover of a waiting plan, the choices of all ports, the moves, the sends, and the slot's end.
     pub fn step(self, store: &[u32]) -> SlotReply
         ensures defined { Steps self store.now result }
-        ensures idles { result.verdict ≡ Accepted → IdlesOnly (takeoverOf self) result }
+        ensures idles { result.verdict ≡ Accepted → IdlesOnly (takeover_of self) result }
     {
         let valid = self.is_valid();
         let fits = fits_if_valid(valid, self.running.ports, self.depth, store.len());

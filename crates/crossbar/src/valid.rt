@@ -1,8 +1,8 @@
 // Whether a state keeps its own rules (number 12), and the tests of Q and of the store's length.
 ghost use Rattle.std.specs.Prelude.{◌≡◌, ◌≤◌};
-ghost use Rattle.plan.specs.Range.{mostPorts};
-ghost use Rattle.fabric.specs.Flow.{mostDepth};
-ghost use Rattle.crossbar.specs.State.{depthInRange, storeFits};
+ghost use Rattle.plan.specs.Range.{most_ports};
+ghost use Rattle.fabric.specs.Flow.{most_depth};
+ghost use Rattle.crossbar.specs.State.{depth_in_range, store_fits};
 ghost use Rattle.crossbar.specs.Valid.{valid_of};
 
 use crate::state::Switch;
@@ -12,7 +12,7 @@ use planpair::valid::plans_valid;
 use side::valid::counts_valid;
 
 pub fn depth_in_range(depth: usize) -> bool
-    ensures { result ≡ depthInRange depth }
+    ensures { result ≡ depth_in_range depth }
 {
     if depth < 1 {
         return false;
@@ -22,8 +22,8 @@ pub fn depth_in_range(depth: usize) -> bool
 
 // Whether a store of `len` places has N x N x Q.
 pub fn store_fits(n: usize, depth: usize, len: usize) -> bool
-    requires { (n ≤ mostPorts) × (depth ≤ mostDepth) }
-    ensures { result ≡ storeFits n depth len }
+    requires { (n ≤ most_ports) × (depth ≤ most_depth) }
+    ensures { result ≡ store_fits n depth len }
 {
     len == n * n * depth
 }

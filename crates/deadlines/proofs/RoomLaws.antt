@@ -4,22 +4,22 @@ use mathlib.Core.List.{List}
 use mathlib.Core.Path.{◌≡◌}
 use native.Mathlib.Omega.{arith}
 use lib.ListN.{length, length-append}
-use Rattle.multiplexer.specs.Choose.{roundedUp}
-use Rattle.multiplexer.specs.Deadlines.{tableFrame}
+use Rattle.multiplexer.specs.Choose.{rounded_up}
+use Rattle.multiplexer.specs.Deadlines.{table_frame}
 use Rattle.console.specs.Text.{HasRoom}
-use Rattle.console.proofs.DigitLaws.{digits-within}
+use Rattle.console.proofs.DigitLaws.{digits_within}
 use Rattle.console.proofs.TextBelowLaws.{below-short}
-use Rattle.deadlines.specs.Printout.{line_of, rateLinesOf, printoutOf, lineRoom, printoutRoom}
+use Rattle.deadlines.specs.Printout.{line_of, rate_lines_of, printout_of, line_room, printout_room}
 
-line-short : (value : ℕ) → length (line_of value) ≤ lineRoom
-line-short value = simp length-append (omega (arith, digits-within 20 value))
+line_short : (value : ℕ) → length (line_of value) ≤ line_room
+line_short value = simp length-append (omega (arith, digits_within 20 value))
 
-rate-short : (a : ℕ) → a ≤ tableFrame → length (rateLinesOf a) ≤ tableFrame * lineRoom
-unfolding rateLinesOf
-rate-short a l =
-    let deadline : ℕ → ℕ = λ k. roundedUp ((k + 1) * tableFrame) a in
-    omega (arith, below-short (λ k. line_of (deadline k)) lineRoom a (λ k _. line-short (deadline k)))
+rate_short : (a : ℕ) → a ≤ table_frame → length (rate_lines_of a) ≤ table_frame * line_room
+unfolding rate_lines_of
+rate_short a l =
+    let deadline : ℕ → ℕ = λ k. rounded_up ((k + 1) * table_frame) a in
+    omega (arith, below-short (λ k. line_of (deadline k)) line_room a (λ k _. line_short (deadline k)))
 
-pub printout-room : (buffer : List ℕ) → length buffer ≡ printoutRoom → HasRoom buffer 0 printoutOf
-unfolding printoutOf
-printout-room buffer long = omega (arith, below-short (λ b. rateLinesOf (b + 1)) (tableFrame * lineRoom) tableFrame (λ b l. rate-short (b + 1) (omega arith)))
+pub printout_room_lem : (buffer : List ℕ) → length buffer ≡ printout_room → HasRoom buffer 0 printout_of
+unfolding printout_of
+printout_room_lem buffer long = omega (arith, below-short (λ b. rate_lines_of (b + 1)) (table_frame * line_room) table_frame (λ b l. rate_short (b + 1) (omega arith)))

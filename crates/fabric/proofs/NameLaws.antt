@@ -2,55 +2,55 @@
 -- made of, if the choices name such ports.
 use Prim.Native.Nat.{ℕ, zero, suc, ◌<◌}
 use mathlib.Core.List.{List}
-use Rattle.plan.specs.Range.{mostPorts}
+use Rattle.plan.specs.Range.{most_ports}
 use Rattle.multiplexer.specs.declared.Choice.{Choice}
 use Rattle.multiplexer.specs.declared.Choice.TheVariants.{Idle, Flow}
-use Rattle.fabric.specs.Answer.{port, answer_of, allIdle}
-use Rattle.side.specs.Choices.{choiceAt, ChoosesPort}
-use Rattle.fabric.specs.Moves.{Moves, boardMoves, moves_of}
-use Rattle.fabric.specs.Sends.{Sends, headSends, sendsOf}
+use Rattle.fabric.specs.Answer.{port, answer_of, all_idle}
+use Rattle.side.specs.Choices.{choice_at, ChoosesPort}
+use Rattle.fabric.specs.Moves.{Moves, board_moves, moves_of}
+use Rattle.fabric.specs.Sends.{Sends, head_sends, sends_of}
 use Rattle.fabric.specs.declared.flow.Answer.{Answer}
 use Rattle.fabric.specs.declared.flow.Answer.TheVariants as answer
 use Rattle.fabric.specs.declared.flow.Crosspoint.{Crosspoint}
 use Rattle.fabric.specs.declared.flow.Port.{Port}
 use Rattle.fabric.specs.declared.flow.Queue.{Queue}
-use Rattle.side.proofs.NameLaws.{set_keeps, repeated-is}
-use Rattle.fabric.proofs.MoveLaws.{move-case}
-use Rattle.fabric.proofs.SendLaws.{send-case}
+use Rattle.side.proofs.NameLaws.{set_keeps, repeated_is}
+use Rattle.fabric.proofs.MoveLaws.{move_case}
+use Rattle.fabric.proofs.SendLaws.{send_case}
 
 -- an answer names a port that a switch can have, if it names one
 abbrev pub NamesPort : Answer → Type 0
 NamesPort answer.Idle = Unit {0}
-NamesPort (answer.Empty other) = other < mostPorts
-NamesPort (answer.Moved other cell) = other < mostPorts
+NamesPort (answer.Empty other) = other < most_ports
+NamesPort (answer.Moved other cell) = other < most_ports
 
 -- the same of a port
 abbrev PortNames : Port → Type 0
 PortNames x = NamesPort x.answer
 
-pub idle-names : (p : ℕ) → NamesPort (answer_of allIdle p)
-idle-names p = repeated-is PortNames mostPorts p (port answer.Idle) tt
+pub idle_names : (p : ℕ) → NamesPort (answer_of all_idle p)
+idle_names p = repeated_is PortNames most_ports p (port answer.Idle) tt
 
-module _ (choices : List Choice) (named : (p : ℕ) → ChoosesPort (choiceAt choices p)) where
+module _ (choices : List Choice) (named : (p : ℕ) → ChoosesPort (choice_at choices p)) where
   pub moves-name : (n depth : ℕ) (store : List ℕ) (queues : List Queue) (points : List Crosspoint) (m p : ℕ)
       → NamesPort (answer_of (moves_of n depth store choices queues points m).ports p)
-  unfolding moves_of boardMoves
-  moves-name n depth store queues points zero p = idle-names p
+  unfolding moves_of board_moves
+  moves-name n depth store queues points zero p = idle_names p
   moves-name n depth store queues points (suc m) p =
-      go (choiceAt choices m) (named m) (moves_of n depth store choices queues points m) (moves-name n depth store queues points m p)
+      go (choice_at choices m) (named m) (moves_of n depth store choices queues points m) (moves-name n depth store queues points m p)
     where
-      go : (c : Choice) → ChoosesPort c → (f : Moves) → NamesPort (answer_of f.ports p) → NamesPort (answer_of (boardMoves n depth store m c f).ports p)
+      go : (c : Choice) → ChoosesPort c → (f : Moves) → NamesPort (answer_of f.ports p) → NamesPort (answer_of (board_moves n depth store m c f).ports p)
       go Idle h f was = was
       go (Flow j) h f was =
-          set_keeps PortNames f.ports m p _ (port answer.Idle) (move-case (λ r. PortNames r.port) depth j _ _ _ (λ _. h) (λ _. h)) was
+          set_keeps PortNames f.ports m p _ (port answer.Idle) (move_case (λ r. PortNames r.port) depth j _ _ _ (λ _. h) (λ _. h)) was
 
-  pub sends-name : (n : ℕ) (points : List Crosspoint) (m p : ℕ) → NamesPort (answer_of (sendsOf n choices points m).ports p)
-  unfolding sendsOf headSends
-  sends-name n points zero p = idle-names p
+  pub sends-name : (n : ℕ) (points : List Crosspoint) (m p : ℕ) → NamesPort (answer_of (sends_of n choices points m).ports p)
+  unfolding sends_of head_sends
+  sends-name n points zero p = idle_names p
   sends-name n points (suc m) p =
-      go (choiceAt choices m) (named m) (sendsOf n choices points m) (sends-name n points m p)
+      go (choice_at choices m) (named m) (sends_of n choices points m) (sends-name n points m p)
     where
-      go : (c : Choice) → ChoosesPort c → (f : Sends) → NamesPort (answer_of f.ports p) → NamesPort (answer_of (headSends n m c f).ports p)
+      go : (c : Choice) → ChoosesPort c → (f : Sends) → NamesPort (answer_of f.ports p) → NamesPort (answer_of (head_sends n m c f).ports p)
       go Idle h f was = was
       go (Flow i) h f was =
-          set_keeps PortNames f.ports m p _ (port answer.Idle) (send-case (λ r. PortNames r.port) i _ (λ _. h) (λ _. h)) was
+          set_keeps PortNames f.ports m p _ (port answer.Idle) (send_case (λ r. PortNames r.port) i _ (λ _. h) (λ _. h)) was

@@ -9,16 +9,16 @@ use lib.Dec.{eqb}
 use lib.ListN.{length, get_or, set, length-set}
 use lib.Seq.{get_or-set_same, get_or-set_other}
 use borrow.Author.Tests.{eqb-true, eqb-false}
-use Rattle.plan.specs.Range.{mostPorts, mostFlows}
+use Rattle.plan.specs.Range.{most_ports, most_flows}
 use Rattle.plan.specs.Lines.{flow_of}
-use Rattle.plan.proofs.LineLaws.{flow-below, flow-one}
+use Rattle.plan.proofs.LineLaws.{flow_below, flow_one}
 use Rattle.multiplexer.specs.declared.Choice.{Choice}
 use Rattle.multiplexer.specs.declared.Choice.TheVariants.{Idle, Flow}
 use Rattle.multiplexer.specs.declared.Multiplexer.{Multiplexer}
-use Rattle.fabric.specs.Flow.{noPoint}
+use Rattle.fabric.specs.Flow.{no_point}
 use Rattle.fabric.specs.Answer.{port, answer_of}
-use Rattle.side.specs.Choices.{choiceAt, NamesBelow, CanChoose}
-use Rattle.fabric.specs.Sends.{Sends, sendNone, sendCell, sendOf, headSends, sendsOf}
+use Rattle.side.specs.Choices.{choice_at, NamesBelow, CanChoose}
+use Rattle.fabric.specs.Sends.{Sends, send_none, send_cell, send_of, head_sends, sends_of}
 use Rattle.fabric.specs.declared.flow.Crosspoint.{Crosspoint}
 use Rattle.fabric.specs.declared.flow.Port.{Port}
 use Rattle.fabric.specs.declared.flow.Answer.TheVariants as answer
@@ -26,149 +26,149 @@ use Rattle.fabric.specs.declared.sends.Send.{Send}
 use Rattle.fabric.specs.declared.sends.AfterSends.{AfterSends}
 use Rattle.fabric.specs.declared.flow.Queue.{Queue}
 use Rattle.fabric.specs.declared.Fabric.{Fabric}
-use Rattle.side.proofs.ListLaws.{getD-repeated}
-use Rattle.side.proofs.PlaceLaws.{flow-small}
+use Rattle.side.proofs.ListLaws.{get_d_repeated}
+use Rattle.side.proofs.PlaceLaws.{flow_small}
 use Rattle.side.proofs.TouchLaws.{untouched, settled, not_yet, done}
 
 -- what holds of a service that finds no cell, and of one that finds one, holds of a service
-pub send-case : (P : Send → Type 0) (i : ℕ) (x : Crosspoint) → (x.count ≡ 0 → P (sendNone i x)) → (1 ≤ x.count → P (sendCell i x)) → P (sendOf i x)
-unfolding sendOf
-send-case P i x none some = go (eqb x.count 0) refl
+pub send_case : (P : Send → Type 0) (i : ℕ) (x : Crosspoint) → (x.count ≡ 0 → P (send_none i x)) → (1 ≤ x.count → P (send_cell i x)) → P (send_of i x)
+unfolding send_of
+send_case P i x none some = go (eqb x.count 0) refl
   where
-    go : (b : Bool) → eqb x.count 0 ≡ b → P (sendOf i x)
+    go : (b : Bool) → eqb x.count 0 ≡ b → P (send_of i x)
     go true e = rw e (none (eqb-true x.count 0 e))
     go false e = let ne = eqb-false x.count 0 e in rw e (some (omega arith))
 
 -- a service is not answered by "idle"
-pub send-serves : (i : ℕ) (x : Crosspoint) → (sendOf i x).port.answer ≡ answer.Idle → ⊥
-send-serves i x =
-    send-case (λ r. r.port.answer ≡ answer.Idle → ⊥) i x
+pub send_serves : (i : ℕ) (x : Crosspoint) → (send_of i x).port.answer ≡ answer.Idle → ⊥
+send_serves i x =
+    send_case (λ r. r.port.answer ≡ answer.Idle → ⊥) i x
     (λ _ (e : answer.Empty i ≡ answer.Idle). let z : ◌≡◌ {A = ℕ} 0 1 = cc in omega arith)
     (λ _ (e : answer.Moved i (get_or x.cells 0 0) ≡ answer.Idle). let z : ◌≡◌ {A = ℕ} 0 1 = cc in omega arith)
 
 -- flow (i, j)'s send from the crosspoints given
-abbrev pub flowSend : ℕ → List Crosspoint → ℕ → ℕ → Send
-flowSend n points i j = sendOf i (get_or points (flow_of n i j) noPoint)
+abbrev pub flow_send : ℕ → List Crosspoint → ℕ → ℕ → Send
+flow_send n points i j = send_of i (get_or points (flow_of n i j) no_point)
 
-abbrev pub withSend : ℕ → ℕ → Sends → Send → Sends
-withSend j k f r = record { crosspoints = set f.crosspoints k r.point; ports = set f.ports j r.port }
+abbrev pub with_send : ℕ → ℕ → Sends → Send → Sends
+with_send j k f r = record { crosspoints = set f.crosspoints k r.point; ports = set f.ports j r.port }
 
 module _ (n : ℕ) (choices : List Choice) (points : List Crosspoint) where
   -- the heads below m
   abbrev after : ℕ → Sends
-  after m = sendsOf n choices points m
+  after m = sends_of n choices points m
 
   -- one head more, by its choice
-  pub sends-idle-step : (m : ℕ) (f : Sends) → f ≡ after m → choiceAt choices m ≡ Idle → f ≡ after (m + 1)
-  unfolding sendsOf headSends
+  pub sends-idle-step : (m : ℕ) (f : Sends) → f ≡ after m → choice_at choices m ≡ Idle → f ≡ after (m + 1)
+  unfolding sends_of head_sends
   sends-idle-step m f e c = rw (add-one, c) e
 
-  pub sends-flow-step : (m i k : ℕ) (f : Sends) (r : Send) → f ≡ after m → choiceAt choices m ≡ Flow i → k ≡ flow_of n i m
-      → r ≡ sendOf i (get_or f.crosspoints k noPoint) → withSend m k f r ≡ after (m + 1)
-  unfolding sendsOf headSends
+  pub sends-flow-step : (m i k : ℕ) (f : Sends) (r : Send) → f ≡ after m → choice_at choices m ≡ Flow i → k ≡ flow_of n i m
+      → r ≡ send_of i (get_or f.crosspoints k no_point) → with_send m k f r ≡ after (m + 1)
+  unfolding sends_of head_sends
   sends-flow-step m i k f r e c ek er = rw (add-one, c, er, ek, e)
 
   -- head m serves flow k
   abbrev serves : ℕ → ℕ → Type 0
-  serves m k = (i : ℕ) × (choiceAt choices m ≡ Flow i) × (flow_of n i m ≡ k)
+  serves m k = (i : ℕ) × (choice_at choices m ≡ Flow i) × (flow_of n i m ≡ k)
 
-  point-other : (m k : ℕ) → (serves m k → ⊥) → get_or (after (suc m)).crosspoints k noPoint ≡ get_or (after m).crosspoints k noPoint
-  unfolding sendsOf headSends
-  point-other m k h = go (choiceAt choices m) refl
+  point-other : (m k : ℕ) → (serves m k → ⊥) → get_or (after (suc m)).crosspoints k no_point ≡ get_or (after m).crosspoints k no_point
+  unfolding sends_of head_sends
+  point-other m k h = go (choice_at choices m) refl
     where
-      go : (c : Choice) → choiceAt choices m ≡ c → get_or (headSends n m c (after m)).crosspoints k noPoint ≡ get_or (after m).crosspoints k noPoint
+      go : (c : Choice) → choice_at choices m ≡ c → get_or (head_sends n m c (after m)).crosspoints k no_point ≡ get_or (after m).crosspoints k no_point
       go Idle e = refl
-      go (Flow i) e = get_or-set_other (after m).crosspoints (flow_of n i m) k _ noPoint (λ x. h (i, e, sym x))
+      go (Flow i) e = get_or-set_other (after m).crosspoints (flow_of n i m) k _ no_point (λ x. h (i, e, sym x))
 
   answer-other : (m p : ℕ) → (p ≡ m → ⊥) → answer_of (after (suc m)).ports p ≡ answer_of (after m).ports p
-  unfolding sendsOf headSends
-  answer-other m p h = go (choiceAt choices m)
+  unfolding sends_of head_sends
+  answer-other m p h = go (choice_at choices m)
     where
-      go : (c : Choice) → answer_of (headSends n m c (after m)).ports p ≡ answer_of (after m).ports p
+      go : (c : Choice) → answer_of (head_sends n m c (after m)).ports p ≡ answer_of (after m).ports p
       go Idle = refl
       go (Flow i) = ap (λ (x : Port). x.answer) (get_or-set_other (after m).ports m p _ (port answer.Idle) h)
 
   -- flow (i, j) is served by head j alone
-  only : (p i j : ℕ) → p < n → j < n → serves p (flow_of n i j) → (p ≡ j) × (choiceAt choices p ≡ Flow i)
-  only p i j hp hj (g, e, same) = let both = flow-one n g p i j hp hj same in (both.1, e ∙ ap Flow both.0)
+  only : (p i j : ℕ) → p < n → j < n → serves p (flow_of n i j) → (p ≡ j) × (choice_at choices p ≡ Flow i)
+  only p i j hp hj (g, e, same) = let both = flow_one n g p i j hp hj same in (both.1, e ∙ ap Flow both.0)
 
   -- a crosspoint that no head below m serves stays as it was
-  kept : (m k : ℕ) → ((p : ℕ) → p < m → serves p k → ⊥) → get_or (after m).crosspoints k noPoint ≡ get_or points k noPoint
-  unfolding sendsOf
-  kept m k h = untouched (λ m k. get_or (after m).crosspoints k noPoint) serves point-other m k h
+  kept : (m k : ℕ) → ((p : ℕ) → p < m → serves p k → ⊥) → get_or (after m).crosspoints k no_point ≡ get_or points k no_point
+  unfolding sends_of
+  kept m k h = untouched (λ m k. get_or (after m).crosspoints k no_point) serves point-other m k h
 
   pub record SendLengths (f : Sends) : Type 0 where
     pub points_kept : length f.crosspoints ≡ length points
-    pub all-ports : length f.ports ≡ mostPorts
+    pub all-ports : length f.ports ≡ most_ports
 
-  length-step : (m : ℕ) (c : Choice) (f : Sends) → SendLengths f → SendLengths (headSends n m c f)
-  unfolding headSends
+  length-step : (m : ℕ) (c : Choice) (f : Sends) → SendLengths f → SendLengths (head_sends n m c f)
+  unfolding head_sends
   length-step m Idle f h = h
   length-step m (Flow i) f h =
       record { points_kept = length-set f.crosspoints _ _ ∙ h.points_kept; all-ports = length-set f.ports _ _ ∙ h.all-ports }
 
   pub sends-length : (m : ℕ) → SendLengths (after m)
-  unfolding sendsOf
+  unfolding sends_of
   sends-length zero = record { points_kept = refl; all-ports = refl }
-  sends-length (suc m) = length-step m (choiceAt choices m) (after m) (sends-length m)
+  sends-length (suc m) = length-step m (choice_at choices m) (after m) (sends-length m)
 
   -- head m's service, with what it finds
-  served-step : (m i : ℕ) → m < n → choiceAt choices m ≡ Flow i
-      → after (suc m) ≡ withSend m (flow_of n i m) (after m) (flowSend n points i m)
-  unfolding sendsOf headSends
+  served-step : (m i : ℕ) → m < n → choice_at choices m ≡ Flow i
+      → after (suc m) ≡ with_send m (flow_of n i m) (after m) (flow_send n points i m)
+  unfolding sends_of head_sends
   served-step m i l c =
       let is = kept m (flow_of n i m) (λ p h s. omega (arith, (only p i m (omega arith) l s).0)) in
       rw (c, is)
 
   sends-answer-past : (m p : ℕ) → m ≤ p → answer_of (after m).ports p ≡ answer.Idle
-  unfolding sendsOf
+  unfolding sends_of
   sends-answer-past m p l =
       not_yet (λ m p. answer_of (after m).ports p) answer-other m p l
-      ∙ ap (λ (x : Port). x.answer) (getD-repeated mostPorts p (port answer.Idle))
+      ∙ ap (λ (x : Port). x.answer) (get_d_repeated most_ports p (port answer.Idle))
 
-  pub sends-answer-idle : (j : ℕ) → j < n → choiceAt choices j ≡ Idle → answer_of (after n).ports j ≡ answer.Idle
-  unfolding sendsOf headSends
+  pub sends-answer-idle : (j : ℕ) → j < n → choice_at choices j ≡ Idle → answer_of (after n).ports j ≡ answer.Idle
+  unfolding sends_of head_sends
   sends-answer-idle j l c = done (λ m p. answer_of (after m).ports p) answer-other n j l ∙ rw c (sends-answer-past j j (omega arith))
 
   -- the flow that head j serves, and its answer
   pub record Sent (i j : ℕ) : Type 0 where
-    pub point : get_or (after n).crosspoints (flow_of n i j) noPoint ≡ (flowSend n points i j).point
-    pub answer : answer_of (after n).ports j ≡ (flowSend n points i j).port.answer
+    pub point : get_or (after n).crosspoints (flow_of n i j) no_point ≡ (flow_send n points i j).point
+    pub answer : answer_of (after n).ports j ≡ (flow_send n points i j).port.answer
 
-  pub sends-served : CanChoose n choices → length points ≡ mostFlows → (i j : ℕ) → j < n → choiceAt choices j ≡ Flow i → Sent i j
+  pub sends-served : CanChoose n choices → length points ≡ most_flows → (i j : ℕ) → j < n → choice_at choices j ≡ Flow i → Sent i j
   sends-served h full i j l c =
       let k = flow_of n i j in
-      let r = flowSend n points i j in
+      let r = flow_send n points i j in
       let e = served-step j i l c in
-      let small = flow-small n i j h.few-ports (h.named j i l c) l in
+      let small = flow_small n i j h.few_ports (h.named j i l c) l in
       let size = sends-length j in
       record {
         point =
-            settled (λ m k. get_or (after m).crosspoints k noPoint) serves point-other n j k l (λ q lo hi s. omega (arith, (only q i j hi l s).0))
-            ∙ ap (λ (f : Sends). get_or f.crosspoints k noPoint) e
-            ∙ get_or-set_same (after j).crosspoints k r.point noPoint (omega (arith, size.points_kept));
+            settled (λ m k. get_or (after m).crosspoints k no_point) serves point-other n j k l (λ q lo hi s. omega (arith, (only q i j hi l s).0))
+            ∙ ap (λ (f : Sends). get_or f.crosspoints k no_point) e
+            ∙ get_or-set_same (after j).crosspoints k r.point no_point (omega (arith, size.points_kept));
         answer =
             done (λ m p. answer_of (after m).ports p) answer-other n j l
             ∙ ap (λ (f : Sends). answer_of f.ports j) e
-            ∙ ap (λ (x : Port). x.answer) (get_or-set_same (after j).ports j r.port (port answer.Idle) (omega (arith, size.all-ports, h.few-ports)));
+            ∙ ap (λ (x : Port). x.answer) (get_or-set_same (after j).ports j r.port (port answer.Idle) (omega (arith, size.all-ports, h.few_ports)));
       }
 
   -- a flow that its head doesn't serve
-  pub sends-passed : (i j : ℕ) → j < n → (choiceAt choices j ≡ Flow i → ⊥)
-      → get_or (after n).crosspoints (flow_of n i j) noPoint ≡ get_or points (flow_of n i j) noPoint
+  pub sends-passed : (i j : ℕ) → j < n → (choice_at choices j ≡ Flow i → ⊥)
+      → get_or (after n).crosspoints (flow_of n i j) no_point ≡ get_or points (flow_of n i j) no_point
   sends-passed i j hj otherwise =
-      kept n (flow_of n i j) (λ p l s. let at = only p i j l hj s in otherwise (ap (choiceAt choices) (sym at.0) ∙ at.1))
+      kept n (flow_of n i j) (λ p l s. let at = only p i j l hj s in otherwise (ap (choice_at choices) (sym at.0) ∙ at.1))
 
   -- "What the state holds for ports from N up is neither looked at nor changed."
-  pub sends-past : NamesBelow n choices → (k : ℕ) → n * n ≤ k → get_or (after n).crosspoints k noPoint ≡ get_or points k noPoint
-  sends-past named k h = kept n k (λ p l (i, c, e). omega (arith, flow-below n i p (named p i l c) l))
+  pub sends-past : NamesBelow n choices → (k : ℕ) → n * n ≤ k → get_or (after n).crosspoints k no_point ≡ get_or points k no_point
+  sends-past named k h = kept n k (λ p l (i, c, e). omega (arith, flow_below n i p (named p i l c) l))
 
 -- the fabric after the sends, put together from the lists that they change and those that stay
-pub sent-whole : (a b : Fabric) (ports : List Port) (s : Sends) → a.queues ≡ b.queues → a.boards ≡ b.boards → a.heads ≡ b.heads
+pub sent_whole : (a b : Fabric) (ports : List Port) (s : Sends) → a.queues ≡ b.queues → a.boards ≡ b.boards → a.heads ≡ b.heads
     → ◌≡◌ {A = Sends} (record { crosspoints = a.crosspoints; ports = ports }) s
     → ◌≡◌ {A = AfterSends} (record { fabric = a; ports = ports })
     (record { fabric = record { queues = b.queues; crosspoints = s.crosspoints; boards = b.boards; heads = b.heads }; ports = s.ports })
-sent-whole a b ports s eq eb eh e =
+sent_whole a b ports s eq eb eh e =
     ap {A = List Queue} {B = AfterSends} (λ x. record { fabric = record { queues = x; crosspoints = a.crosspoints; boards = a.boards; heads = a.heads }; ports = ports }) eq
     ∙ ap {A = List Multiplexer} {B = AfterSends} (λ x. record { fabric = record { queues = b.queues; crosspoints = a.crosspoints; boards = x; heads = a.heads }; ports = ports }) eb
     ∙ ap {A = List Multiplexer} {B = AfterSends} (λ x. record { fabric = record { queues = b.queues; crosspoints = a.crosspoints; boards = b.boards; heads = x }; ports = ports }) eh

@@ -4,19 +4,19 @@ use mathlib.Core.Path.{◌≡◌, refl}
 use mathlib.Core.List.{List}
 use native.Mathlib.Omega.{arith}
 use Rattle.multiplexer.specs.declared.Choice.{Choice}
-use Rattle.fabric.specs.Answer.{allIdle}
+use Rattle.fabric.specs.Answer.{all_idle}
 use Rattle.side.specs.Choices.{CanChoose}
 use Rattle.side.proofs.CountLaws.{ports-none}
 use Rattle.fabric.specs.Moves.{moves_of}
-use Rattle.fabric.specs.Sends.{sendsOf}
+use Rattle.fabric.specs.Sends.{sends_of}
 use Rattle.fabric.specs.Slot.{run_of}
 use Rattle.fabric.specs.declared.Fabric.{Fabric}
 use Rattle.side.specs.declared.choices.Side.{Side}
 
 pub run_none : (depth : ℕ) (store : List ℕ) (boards heads : Side) (f : Fabric)
-    → run_of 0 depth store boards heads f ≡ record { fabric = f; moves = allIdle; sends = allIdle }
-unfolding moves_of sendsOf
+    → run_of 0 depth store boards heads f ≡ record { fabric = f; moves = all_idle; sends = all_idle }
+unfolding moves_of sends_of
 run_none depth store boards heads f = rw (ports-none boards.ports f.boards, ports-none heads.ports f.heads) refl
 
-pub none-chooses : (choices : List Choice) → CanChoose 0 choices
-none-chooses choices = record { few-ports = omega arith; named = λ p q l. absurd (omega arith) }
+pub none_chooses : (choices : List Choice) → CanChoose 0 choices
+none_chooses choices = record { few_ports = omega arith; named = λ p q l. absurd (omega arith) }

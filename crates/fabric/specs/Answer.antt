@@ -1,7 +1,7 @@
 -- What a port's answer says: "idle; empty (served, nothing to move), with the other port; moved, with the other port
 -- and the cell."
 use Rattle.std.specs.Prelude.{ℕ, Bool, false, cond, List, [], ◌∷◌, eqb, get_or, replicate}
-use Rattle.plan.specs.Range.{mostPorts}
+use Rattle.plan.specs.Range.{most_ports}
 use Rattle.fabric.specs.declared.flow.Answer.{Answer}
 use Rattle.fabric.specs.declared.flow.Answer.TheVariants.{Idle, Empty, Moved}
 use Rattle.fabric.specs.declared.flow.Port.{Port}
@@ -13,16 +13,16 @@ kind_of (Empty other) = 1
 kind_of (Moved other cell) = 2
 
 -- the cells that went between a port and another, by the port's answer: one or none
-abbrev pub cellsWith : ℕ → Answer → List ℕ
-cellsWith p Idle = []
-cellsWith p (Empty other) = []
-cellsWith p (Moved other cell) = cond (eqb other p) (cell ∷ []) []
+abbrev pub cells_with : ℕ → Answer → List ℕ
+cells_with p Idle = []
+cells_with p (Empty other) = []
+cells_with p (Moved other cell) = cond (eqb other p) (cell ∷ []) []
 
 -- whether a port served another and had no cell
-abbrev pub emptyWith : ℕ → Answer → Bool
-emptyWith p Idle = false
-emptyWith p (Empty other) = eqb other p
-emptyWith p (Moved other cell) = false
+abbrev pub empty_with : ℕ → Answer → Bool
+empty_with p Idle = false
+empty_with p (Empty other) = eqb other p
+empty_with p (Moved other cell) = false
 
 abbrev pub port : Answer → Port
 port a = record { answer = a }
@@ -31,5 +31,5 @@ port a = record { answer = a }
 abbrev pub answer_of : List Port → ℕ → Answer
 answer_of ports p = (get_or ports p (port Idle)).answer
 
-abbrev pub allIdle : List Port
-allIdle = replicate mostPorts (port Idle)
+abbrev pub all_idle : List Port
+all_idle = replicate most_ports (port Idle)

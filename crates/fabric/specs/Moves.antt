@@ -5,9 +5,9 @@ use Rattle.plan.specs.Below.{all_below}
 use Rattle.plan.specs.Lines.{flow_of}
 use Rattle.multiplexer.specs.declared.Choice.{Choice}
 use Rattle.multiplexer.specs.declared.Choice.TheVariants.{Idle, Flow}
-use Rattle.fabric.specs.Flow.{mostDepth, crosspointDepth, noQueue, noPoint, cellPlace}
-use Rattle.fabric.specs.Answer.{port, allIdle}
-use Rattle.side.specs.Choices.{choiceAt, CanChoose}
+use Rattle.fabric.specs.Flow.{most_depth, crosspoint_depth, no_queue, no_point, cell_place}
+use Rattle.fabric.specs.Answer.{port, all_idle}
+use Rattle.side.specs.Choices.{choice_at, CanChoose}
 use Rattle.fabric.specs.declared.flow.Answer.TheVariants.{Empty, Moved}
 use Rattle.fabric.specs.declared.flow.Queue.{Queue}
 use Rattle.fabric.specs.declared.flow.Crosspoint.{Crosspoint}
@@ -25,16 +25,16 @@ abbrev pub filled : ℕ → Crosspoint → Crosspoint
 filled cell x = record { cells = set x.cells x.count cell; count = x.count + 1 }
 
 -- a board's service of head j that finds no cell in its queue
-abbrev pub moveNone : ℕ → Queue → Crosspoint → Move
-moveNone j q x = record { queue = q; point = x; port = port (Empty j) }
+abbrev pub move_none : ℕ → Queue → Crosspoint → Move
+move_none j q x = record { queue = q; point = x; port = port (Empty j) }
 
 -- one that finds this cell
-abbrev pub moveCell : ℕ → ℕ → ℕ → Queue → Crosspoint → Move
-moveCell depth j cell q x = record { queue = shorter depth q; point = filled cell x; port = port (Moved j cell) }
+abbrev pub move_cell : ℕ → ℕ → ℕ → Queue → Crosspoint → Move
+move_cell depth j cell q x = record { queue = shorter depth q; point = filled cell x; port = port (Moved j cell) }
 
 -- what a board's service of head j makes of its queue, whose oldest cell is `cell`, and of its crosspoint
 unfoldable pub move_of : ℕ → ℕ → ℕ → Queue → Crosspoint → Move
-move_of depth j cell q x = cond (eqb q.count 0) (moveNone j q x) (moveCell depth j cell q x)
+move_of depth j cell q x = cond (eqb q.count 0) (move_none j q x) (move_cell depth j cell q x)
 
 -- what the boards' services change
 pub record Moves : Type 0 where
@@ -45,27 +45,27 @@ pub record Moves : Type 0 where
 -- the move of flow k in the queues, crosspoints and answers so far
 abbrev pub move_at : ℕ → List ℕ → ℕ → ℕ → Moves → Move
 move_at depth store j k f =
-    let q = get_or f.queues k noQueue in
-    move_of depth j (get_or store (cellPlace depth k q 0) 0) q (get_or f.crosspoints k noPoint)
+    let q = get_or f.queues k no_queue in
+    move_of depth j (get_or store (cell_place depth k q 0) 0) q (get_or f.crosspoints k no_point)
 
-abbrev pub withMove : ℕ → ℕ → Moves → Move → Moves
-withMove i k f r =
+abbrev pub with_move : ℕ → ℕ → Moves → Move → Moves
+with_move i k f r =
     record { queues = set f.queues k r.queue; crosspoints = set f.crosspoints k r.point; ports = set f.ports i r.port }
 
 -- board i's part of the slot
-unfoldable pub boardMoves : ℕ → ℕ → List ℕ → ℕ → Choice → Moves → Moves
-boardMoves n depth store i Idle f = f
-boardMoves n depth store i (Flow j) f = let k = flow_of n i j in withMove i k f (move_at depth store j k f)
+unfoldable pub board_moves : ℕ → ℕ → List ℕ → ℕ → Choice → Moves → Moves
+board_moves n depth store i Idle f = f
+board_moves n depth store i (Flow j) f = let k = flow_of n i j in with_move i k f (move_at depth store j k f)
 
 -- the boards below m
 unfoldable pub moves_of : ℕ → ℕ → List ℕ → List Choice → List Queue → List Crosspoint → ℕ → Moves
-moves_of n depth store choices queues points zero = record { queues = queues; crosspoints = points; ports = allIdle }
+moves_of n depth store choices queues points zero = record { queues = queues; crosspoints = points; ports = all_idle }
 moves_of n depth store choices queues points (suc m) =
-    boardMoves n depth store m (choiceAt choices m) (moves_of n depth store choices queues points m)
+    board_moves n depth store m (choice_at choices m) (moves_of n depth store choices queues points m)
 
 -- the same on the fabric, whose counts stay: all n boards
-abbrev pub movedOf : ℕ → ℕ → List ℕ → List Choice → Fabric → AfterMoves
-movedOf n depth store choices f =
+abbrev pub moved_of : ℕ → ℕ → List ℕ → List Choice → Fabric → AfterMoves
+moved_of n depth store choices f =
     let m = moves_of n depth store choices f.queues f.crosspoints n in
     record {
       fabric = record { queues = m.queues; crosspoints = m.crosspoints; boards = f.boards; heads = f.heads };
@@ -73,31 +73,31 @@ movedOf n depth store choices f =
     }
 
 -- whether a service leaves its crosspoint at two cells or fewer
-abbrev pub roomIn : Queue → Crosspoint → Bool
-roomIn q x = eqb q.count 0 || ltb x.count crosspointDepth
+abbrev pub room_in : Queue → Crosspoint → Bool
+room_in q x = eqb q.count 0 || ltb x.count crosspoint_depth
 
 -- the same of board i's service
 unfoldable pub room_for : ℕ → List Queue → List Crosspoint → ℕ → Choice → Bool
 room_for n queues points i Idle = true
 room_for n queues points i (Flow j) =
     let k = flow_of n i j in
-    roomIn (get_or queues k noQueue) (get_or points k noPoint)
+    room_in (get_or queues k no_queue) (get_or points k no_point)
 
-unfoldable pub roomForAll : ℕ → List Choice → List Queue → List Crosspoint → Bool
-roomForAll n choices queues points = all_below (λ i. room_for n queues points i (choiceAt choices i)) n
+unfoldable pub room_for_all : ℕ → List Choice → List Queue → List Crosspoint → Bool
+room_for_all n choices queues points = all_below (λ i. room_for n queues points i (choice_at choices i)) n
 
 -- For the code: what it asks of one move
 pub record CanMove (depth : ℕ) (q : Queue) (x : Crosspoint) : Type 0 where
-  pub some-depth : 1 ≤ depth
-  pub few-cells : depth ≤ mostDepth
+  pub some_depth : 1 ≤ depth
+  pub few_cells : depth ≤ most_depth
   pub place : q.place < depth
-  pub room : roomIn q x ≡ true
+  pub room : room_in q x ≡ true
 
 -- and of all moves of a slot, in which none may act.
 pub record CanMoveAll (n depth len : ℕ) (choices : List Choice) (queues : List Queue) (points : List Crosspoint) : Type 0 where
   pub choosing : CanChoose n choices
-  pub some-depth : 1 ≤ n → 1 ≤ depth
-  pub few-cells : 1 ≤ n → depth ≤ mostDepth
+  pub some_depth : 1 ≤ n → 1 ≤ depth
+  pub few_cells : 1 ≤ n → depth ≤ most_depth
   pub fits : 1 ≤ n → len ≡ n * n * depth
-  pub room : roomForAll n choices queues points ≡ true
-  pub places : (k : ℕ) → k < n * n → (get_or queues k noQueue).place < depth
+  pub room : room_for_all n choices queues points ≡ true
+  pub places : (k : ℕ) → k < n * n → (get_or queues k no_queue).place < depth

@@ -5,9 +5,9 @@ use Rattle.std.specs.Prelude.{ℕ, zero, suc, ◌-◌, cond, List, eqb, ltb, get
 use Rattle.plan.specs.Lines.{flow_of}
 use Rattle.multiplexer.specs.declared.Choice.{Choice}
 use Rattle.multiplexer.specs.declared.Choice.TheVariants.{Idle, Flow}
-use Rattle.fabric.specs.Flow.{noPoint}
-use Rattle.fabric.specs.Answer.{port, allIdle}
-use Rattle.side.specs.Choices.{choiceAt}
+use Rattle.fabric.specs.Flow.{no_point}
+use Rattle.fabric.specs.Answer.{port, all_idle}
+use Rattle.side.specs.Choices.{choice_at}
 use Rattle.fabric.specs.declared.flow.Answer.TheVariants.{Empty, Moved}
 use Rattle.fabric.specs.declared.flow.Crosspoint.{Crosspoint}
 use Rattle.fabric.specs.declared.sends.Send.{Send}
@@ -16,27 +16,27 @@ use Rattle.fabric.specs.declared.flow.Port.{Port}
 use Rattle.fabric.specs.declared.Fabric.{Fabric}
 
 -- the cells after the oldest one left: of two the second moves up, and the place behind the last cell is 0
-abbrev pub movedUp : Crosspoint → List ℕ
-movedUp x =
+abbrev pub moved_up : Crosspoint → List ℕ
+moved_up x =
     cond (ltb 1 x.count)
     (set (set x.cells 0 (get_or x.cells 1 0)) 1 0)
     (set x.cells 0 0)
 
 -- a crosspoint without its oldest cell
-abbrev pub withoutOldest : Crosspoint → Crosspoint
-withoutOldest x = record { cells = movedUp x; count = x.count - 1 }
+abbrev pub without_oldest : Crosspoint → Crosspoint
+without_oldest x = record { cells = moved_up x; count = x.count - 1 }
 
 -- a head's service of board i that finds no cell in its crosspoint
-abbrev pub sendNone : ℕ → Crosspoint → Send
-sendNone i x = record { point = x; port = port (Empty i) }
+abbrev pub send_none : ℕ → Crosspoint → Send
+send_none i x = record { point = x; port = port (Empty i) }
 
 -- one that finds a cell
-abbrev pub sendCell : ℕ → Crosspoint → Send
-sendCell i x = record { point = withoutOldest x; port = port (Moved i (get_or x.cells 0 0)) }
+abbrev pub send_cell : ℕ → Crosspoint → Send
+send_cell i x = record { point = without_oldest x; port = port (Moved i (get_or x.cells 0 0)) }
 
 -- what a head's service of board i makes of its crosspoint
-unfoldable pub sendOf : ℕ → Crosspoint → Send
-sendOf i x = cond (eqb x.count 0) (sendNone i x) (sendCell i x)
+unfoldable pub send_of : ℕ → Crosspoint → Send
+send_of i x = cond (eqb x.count 0) (send_none i x) (send_cell i x)
 
 -- what the heads' services change
 pub record Sends : Type 0 where
@@ -44,22 +44,22 @@ pub record Sends : Type 0 where
   pub ports : List Port
 
 -- head j's part of the slot
-unfoldable pub headSends : ℕ → ℕ → Choice → Sends → Sends
-headSends n j Idle f = f
-headSends n j (Flow i) f =
+unfoldable pub head_sends : ℕ → ℕ → Choice → Sends → Sends
+head_sends n j Idle f = f
+head_sends n j (Flow i) f =
     let k = flow_of n i j in
-    let r = sendOf i (get_or f.crosspoints k noPoint) in
+    let r = send_of i (get_or f.crosspoints k no_point) in
     record { crosspoints = set f.crosspoints k r.point; ports = set f.ports j r.port }
 
 -- the heads below m
-unfoldable pub sendsOf : ℕ → List Choice → List Crosspoint → ℕ → Sends
-sendsOf n choices points zero = record { crosspoints = points; ports = allIdle }
-sendsOf n choices points (suc m) = headSends n m (choiceAt choices m) (sendsOf n choices points m)
+unfoldable pub sends_of : ℕ → List Choice → List Crosspoint → ℕ → Sends
+sends_of n choices points zero = record { crosspoints = points; ports = all_idle }
+sends_of n choices points (suc m) = head_sends n m (choice_at choices m) (sends_of n choices points m)
 
 -- the same on the fabric, whose queues and counts stay: all n heads
-abbrev pub sentOf : ℕ → List Choice → Fabric → AfterSends
-sentOf n choices f =
-    let s = sendsOf n choices f.crosspoints n in
+abbrev pub sent_of : ℕ → List Choice → Fabric → AfterSends
+sent_of n choices f =
+    let s = sends_of n choices f.crosspoints n in
     record {
       fabric = record { queues = f.queues; crosspoints = s.crosspoints; boards = f.boards; heads = f.heads };
       ports = s.ports;

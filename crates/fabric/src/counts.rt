@@ -1,7 +1,7 @@
 // The service counts after a slot.
 ghost use Rattle.std.specs.Prelude.{◌≡◌, ◌≤◌};
-ghost use Rattle.plan.specs.Range.{mostPorts};
-ghost use Rattle.fabric.specs.Counts.{countedOf};
+ghost use Rattle.plan.specs.Range.{most_ports};
+ghost use Rattle.fabric.specs.Counts.{counted_of};
 
 use crate::Fabric;
 use side::choices::Side;
@@ -9,8 +9,8 @@ use side::choices::Side;
 impl Fabric {
     // The counts of the ports below n, as their slot leaves them.
     pub fn counted(mut self, boards: Side, heads: Side, n: usize) -> Fabric
-        requires { n ≤ mostPorts }
-        ensures { result ≡ countedOf self boards.ports heads.ports n }
+        requires { n ≤ most_ports }
+        ensures { result ≡ counted_of self boards.ports heads.ports n }
     {
         for p in 0..n {
             let board = boards.ports[p];

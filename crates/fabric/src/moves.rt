@@ -1,8 +1,8 @@
 // The board's half of a slot: each chosen flow moves a cell from its queue to its crosspoint.
 ghost use Rattle.std.specs.Prelude.{◌≡◌, ◌<◌, length, set};
-ghost use Rattle.fabric.specs.Flow.{crosspointDepth};
-ghost use Rattle.side.specs.Choices.{choicesIn, CanChoose};
-ghost use Rattle.fabric.specs.Moves.{move_of, movedOf, roomIn, roomForAll, CanMove, CanMoveAll};
+ghost use Rattle.fabric.specs.Flow.{crosspoint_depth};
+ghost use Rattle.side.specs.Choices.{choices_in, CanChoose};
+ghost use Rattle.fabric.specs.Moves.{move_of, moved_of, room_in, room_for_all, CanMove, CanMoveAll};
 
 use crate::Fabric;
 use crate::flow::{Answer, CROSSPOINT_DEPTH, Crosspoint, Port, Queue};
@@ -28,7 +28,7 @@ pub struct AfterMoves {
 
 // Whether a service leaves the crosspoint at two cells or fewer.
 fn has_room(queue: Queue, point: Crosspoint) -> bool
-    ensures { result ≡ roomIn queue point }
+    ensures { result ≡ room_in queue point }
 {
     if queue.count == 0 {
         return true;
@@ -43,8 +43,8 @@ pub fn room_for_all(
     turns: [Turn; MOST_PORTS],
     n: usize,
 ) -> bool
-    requires { CanChoose n (choicesIn turns) }
-    ensures { result ≡ roomForAll n (choicesIn turns) queues crosspoints }
+    requires { CanChoose n (choices_in turns) }
+    ensures { result ≡ room_for_all n (choices_in turns) queues crosspoints }
 {
     for i in 0..n {
         let turn = turns[i];
@@ -64,7 +64,7 @@ pub fn room_for_all(
 // The crosspoint's cells with one more behind `count` others. Each place is written as it stands in the code: a processor
 // waits for a store to a computed place before it reads the two as one.
 fn with_cell(cells: [u32; 2], count: u8, cell: u32) -> [u32; 2]
-    requires { count < crosspointDepth }
+    requires { count < crosspoint_depth }
     ensures { result ≡ set cells count cell }
 {
     let mut filled = cells;
@@ -117,8 +117,8 @@ impl Fabric {
         n: usize,
         depth: usize,
     ) -> AfterMoves
-        requires { CanMoveAll n depth (length store.now) (choicesIn turns) self.queues self.crosspoints }
-        ensures { result ≡ movedOf n depth store.now (choicesIn turns) self }
+        requires { CanMoveAll n depth (length store.now) (choices_in turns) self.queues self.crosspoints }
+        ensures { result ≡ moved_of n depth store.now (choices_in turns) self }
     {
         let mut ports = [Port {
             answer: Answer::Idle,

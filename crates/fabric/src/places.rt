@@ -1,14 +1,14 @@
 // Where the cells of a flow stand in the store.
 ghost use Rattle.std.specs.Prelude.{◌≡◌, ◌+◌, ◌*◌, ◌%◌, ◌<◌, ◌≤◌};
-ghost use Rattle.plan.specs.Range.{mostPorts};
-ghost use Rattle.fabric.specs.Flow.{mostDepth};
+ghost use Rattle.plan.specs.Range.{most_ports};
+ghost use Rattle.fabric.specs.Flow.{most_depth};
 ghost use Rattle.fabric.specs.Places.{OldestPlace};
 
 use crate::flow::Queue;
 
 // Where the oldest cell of flow k stands.
 pub fn oldest_place(n: usize, depth: usize, k: usize, queue: Queue) -> usize
-    requires { (n ≤ mostPorts) × (depth ≤ mostDepth) × (k < n * n) × (queue.place < depth) }
+    requires { (n ≤ most_ports) × (depth ≤ most_depth) × (k < n * n) × (queue.place < depth) }
     ensures { OldestPlace n depth k queue result }
 {
     let place = queue.place as usize;

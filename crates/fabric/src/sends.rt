@@ -1,7 +1,7 @@
 // The head's half of a slot: each chosen flow sends a cell from its crosspoint.
 ghost use Rattle.std.specs.Prelude.{◌≡◌};
-ghost use Rattle.side.specs.Choices.{choicesIn, CanChoose};
-ghost use Rattle.fabric.specs.Sends.{movedUp, sendOf, sentOf};
+ghost use Rattle.side.specs.Choices.{choices_in, CanChoose};
+ghost use Rattle.fabric.specs.Sends.{moved_up, send_of, sent_of};
 
 use crate::Fabric;
 use crate::flow::{Answer, Crosspoint, Port};
@@ -25,7 +25,7 @@ pub struct AfterSends {
 
 // The cells after the oldest one left.
 fn moved_up(point: Crosspoint) -> [u32; 2]
-    ensures { result ≡ movedUp point }
+    ensures { result ≡ moved_up point }
 {
     let mut cells = point.cells;
     if 1 < point.count {
@@ -39,7 +39,7 @@ fn moved_up(point: Crosspoint) -> [u32; 2]
 
 // The oldest cell of the crosspoint of board i is sent, if there is one.
 fn send_cell(point: Crosspoint, i: usize) -> Send
-    ensures { result ≡ sendOf i point }
+    ensures { result ≡ send_of i point }
 {
     if point.count == 0 {
         return Send {
@@ -66,8 +66,8 @@ fn send_cell(point: Crosspoint, i: usize) -> Send
 impl Fabric {
     // The services of the heads below n.
     pub fn sent(mut self, turns: [Turn; MOST_PORTS], n: usize) -> AfterSends
-        requires { CanChoose n (choicesIn turns) }
-        ensures { result ≡ sentOf n (choicesIn turns) self }
+        requires { CanChoose n (choices_in turns) }
+        ensures { result ≡ sent_of n (choices_in turns) self }
     {
         let mut ports = [Port {
             answer: Answer::Idle,

@@ -1,13 +1,13 @@
 // Number 12's rules for the flows.
 ghost use Rattle.std.specs.Prelude.{◌≡◌, ◌≤◌};
-ghost use Rattle.plan.specs.Range.{mostPorts};
-ghost use Rattle.fabric.specs.Valid.{flowValid, flowsValid};
+ghost use Rattle.plan.specs.Range.{most_ports};
+ghost use Rattle.fabric.specs.Valid.{flow_valid, flows_valid};
 
 use crate::flow::{CROSSPOINT_DEPTH, Crosspoint, Queue};
 use plan::range::MOST_FLOWS;
 
 fn flow_valid(queue: Queue, point: Crosspoint, depth: usize) -> bool
-    ensures { result ≡ flowValid depth queue point }
+    ensures { result ≡ flow_valid depth queue point }
 {
     if depth <= queue.place as usize {
         return false;
@@ -25,8 +25,8 @@ pub fn flows_valid(
     n: usize,
     depth: usize,
 ) -> bool
-    requires { n ≤ mostPorts }
-    ensures { result ≡ flowsValid queues points n depth }
+    requires { n ≤ most_ports }
+    ensures { result ≡ flows_valid queues points n depth }
 {
     for k in 0..n * n {
         let queue = queues[k];

@@ -4,91 +4,91 @@ use mathlib.Core.List.{List, ◌++◌}
 use mathlib.Core.Path.{◌≡◌}
 use native.Mathlib.Omega.{arith}
 use lib.ListN.{length, replicate, length-append}
-use Rattle.plan.specs.Range.{mostPorts, mostSlots}
+use Rattle.plan.specs.Range.{most_ports, most_slots}
 use Rattle.plan.specs.declared.Plan.{Plan}
 use Rattle.planfile.specs.Read.{read_of}
-use Rattle.planfile.proofs.ReadLaws.{accepted-plan}
+use Rattle.planfile.proofs.ReadLaws.{accepted_plan}
 use Rattle.fabric.specs.Answer.{answer_of}
 use Rattle.fabric.specs.declared.flow.Answer.{Answer}
 use Rattle.fabric.specs.declared.flow.Answer.TheVariants.{Idle, Empty, Moved}
 use Rattle.fabric.specs.declared.flow.Port.{Port}
 use Rattle.fabric.proofs.NameLaws.{NamesPort}
-use Rattle.planpair.specs.Rates.{planRates}
+use Rattle.planpair.specs.Rates.{plan_rates}
 use Rattle.crossbar.specs.Start.{start_of}
 use Rattle.crossbar.specs.Step.{step_of}
 use Rattle.crossbar.specs.declared.state.Switch.{Switch}
 use Rattle.crossbar.proofs.AnswerLaws.{step-moves-name, step-sends-name}
-use Rattle.console.specs.Text.{decimalOf, HasRoom, Written}
-use Rattle.frame.specs.Printout.{inputName, outputName, names_of, headerOf, choice_of, sideChoicesOf, slotLineOf, slotLinesOf, framePrintoutOf, printoutOf, headerRoom, slotLineRoom, printoutRoom, Prints}
-use Rattle.console.proofs.DigitLaws.{digits-below}
-use Rattle.console.proofs.TextLaws.{refusal-short, either-short}
+use Rattle.console.specs.Text.{decimal_of, HasRoom, Written}
+use Rattle.frame.specs.Printout.{input_name, output_name, names_of, header_of, choice_of, side_choices_of, slot_line_of, slot_lines_of, frame_printout_of, printout_of, header_room, slot_line_room, printout_room, Prints}
+use Rattle.console.proofs.DigitLaws.{digits_below}
+use Rattle.console.proofs.TextLaws.{refusal_short, either_short}
 use Rattle.console.proofs.TextBelowLaws.{below-short}
 
 -- the number of a port
-port-short : (p : ℕ) → p < mostPorts → length (decimalOf p) ≤ 2
-port-short p l = digits-below 1 20 p (omega arith)
+port_short : (p : ℕ) → p < most_ports → length (decimal_of p) ≤ 2
+port_short p l = digits_below 1 20 p (omega arith)
 
-names-short : (side : List ℕ) (n : ℕ) → n ≤ mostPorts → length (names_of side n) ≤ n * (length side + 2)
-names-short side n few =
-    below-short (λ p. side ++ decimalOf p) (length side + 2) n
-    (λ p l. omega (arith, length-append side (decimalOf p), port-short p (omega arith)))
+names_short : (side : List ℕ) (n : ℕ) → n ≤ most_ports → length (names_of side n) ≤ n * (length side + 2)
+names_short side n few =
+    below-short (λ p. side ++ decimal_of p) (length side + 2) n
+    (λ p l. omega (arith, length-append side (decimal_of p), port_short p (omega arith)))
 
-header-short : (n : ℕ) → n ≤ mostPorts → length (headerOf n) ≤ headerRoom
-unfolding headerOf
-header-short n few = simp length-append (omega (arith, names-short inputName n few, names-short outputName n few))
+header_short : (n : ℕ) → n ≤ most_ports → length (header_of n) ≤ header_room
+unfolding header_of
+header_short n few = simp length-append (omega (arith, names_short input_name n few, names_short output_name n few))
 
-choice-short : (a : Answer) → NamesPort a → length (choice_of a) ≤ 3
-choice-short Idle h = omega arith
-choice-short (Empty other) h = omega (arith, port-short other h)
-choice-short (Moved other cell) h = omega (arith, port-short other h)
+choice_short : (a : Answer) → NamesPort a → length (choice_of a) ≤ 3
+choice_short Idle h = omega arith
+choice_short (Empty other) h = omega (arith, port_short other h)
+choice_short (Moved other cell) h = omega (arith, port_short other h)
 
-choices-short : (ports : List Port) (n : ℕ) → ((p : ℕ) → NamesPort (answer_of ports p)) → length (sideChoicesOf ports n) ≤ n * 3
-choices-short ports n named = below-short _ 3 n (λ p _. choice-short (answer_of ports p) (named p))
+choices_short : (ports : List Port) (n : ℕ) → ((p : ℕ) → NamesPort (answer_of ports p)) → length (side_choices_of ports n) ≤ n * 3
+choices_short ports n named = below-short _ 3 n (λ p _. choice_short (answer_of ports p) (named p))
 
-slot-short : (s : Switch) (store : List ℕ) (n slot : ℕ) → n ≤ mostPorts → slot < mostSlots
-    → length (slotLineOf slot (step_of s store).moves (step_of s store).sends n) ≤ slotLineRoom
-unfolding slotLineOf
-slot-short s store n slot few l =
+slot_short : (s : Switch) (store : List ℕ) (n slot : ℕ) → n ≤ most_ports → slot < most_slots
+    → length (slot_line_of slot (step_of s store).moves (step_of s store).sends n) ≤ slot_line_room
+unfolding slot_line_of
+slot_short s store n slot few l =
     let r = step_of s store in
     simp length-append
     (omega (
       arith,
-      digits-below 3 20 slot (omega arith),
-      choices-short r.moves n (step-moves-name s store),
-      choices-short r.sends n (step-sends-name s store),
+      digits_below 3 20 slot (omega arith),
+      choices_short r.moves n (step-moves-name s store),
+      choices_short r.sends n (step-sends-name s store),
     ))
 
-lines-short : (s : Switch) (store : List ℕ) (n slot left : ℕ) → n ≤ mostPorts → slot + left ≤ mostSlots → length (slotLinesOf s store n slot left) ≤ left * slotLineRoom
-unfolding slotLinesOf
-lines-short s store n slot zero few l = omega arith
-lines-short s store n slot (suc left) few l =
+lines_short : (s : Switch) (store : List ℕ) (n slot left : ℕ) → n ≤ most_ports → slot + left ≤ most_slots → length (slot_lines_of s store n slot left) ≤ left * slot_line_room
+unfolding slot_lines_of
+lines_short s store n slot zero few l = omega arith
+lines_short s store n slot (suc left) few l =
     let r = step_of s store in
-    either-short (suc left * slotLineRoom) r.verdict _ _
-    (λ _. simp length-append (omega (arith, slot-short s store n slot few (omega arith), lines-short r.state store n (suc slot) left few (omega arith))))
-    (omega (arith, refusal-short r.verdict))
+    either_short (suc left * slot_line_room) r.verdict _ _
+    (λ _. simp length-append (omega (arith, slot_short s store n slot few (omega arith), lines_short r.state store n (suc slot) left few (omega arith))))
+    (omega (arith, refusal_short r.verdict))
 
-frame-short : (plan : Plan) → plan.ports ≤ mostPorts → plan.frame ≤ mostSlots → length (framePrintoutOf plan) ≤ printoutRoom
-unfolding framePrintoutOf
-frame-short plan few l =
+frame_short : (plan : Plan) → plan.ports ≤ most_ports → plan.frame ≤ most_slots → length (frame_printout_of plan) ≤ printout_room
+unfolding frame_printout_of
+frame_short plan few l =
     let n = plan.ports in
     let store : List ℕ = replicate (n * n) 0 in
-    let r = start_of n plan.frame (planRates plan) 1 store in
-    either-short printoutRoom r.verdict _ _
-    (λ _. simp length-append (omega (arith, header-short n few, lines-short r.state store n 0 plan.frame few (omega arith))))
-    (omega (arith, refusal-short r.verdict))
+    let r = start_of n plan.frame (plan_rates plan) 1 store in
+    either_short printout_room r.verdict _ _
+    (λ _. simp length-append (omega (arith, header_short n few, lines_short r.state store n 0 plan.frame few (omega arith))))
+    (omega (arith, refusal_short r.verdict))
 
-printout-short : (file : List ℕ) → length (printoutOf file) ≤ printoutRoom
-unfolding printoutOf
-printout-short file =
+printout_short : (file : List ℕ) → length (printout_of file) ≤ printout_room
+unfolding printout_of
+printout_short file =
     let r = read_of file in
-    either-short printoutRoom r.verdict _ _
-    (λ e. let p = (accepted-plan file e).is-plan in frame-short r.plan p.few-ports p.few-slots)
-    (omega (arith, refusal-short r.verdict))
+    either_short printout_room r.verdict _ _
+    (λ e. let p = (accepted_plan file e).is_plan in frame_short r.plan p.few_ports p.few_slots)
+    (omega (arith, refusal_short r.verdict))
 
 -- a buffer of that many bytes has room for every printout, and holds one that was written at its start
-module _ (file before : List ℕ) (long : length before ≡ printoutRoom) where
-  pub printout-room : HasRoom before 0 (printoutOf file)
-  printout-room = omega (arith, printout-short file)
+module _ (file before : List ℕ) (long : length before ≡ printout_room) where
+  pub printout_room_lem : HasRoom before 0 (printout_of file)
+  printout_room_lem = omega (arith, printout_short file)
 
-  pub prints : {after : List ℕ} {r : ℕ} → length after ≡ length before → Written before 0 (printoutOf file) after r → Prints file before after r
-  prints same w = record { within = omega (arith, w.place, printout-short file); printed = w.bytes; kept = w.kept }
+  pub prints : {after : List ℕ} {r : ℕ} → length after ≡ length before → Written before 0 (printout_of file) after r → Prints file before after r
+  prints same w = record { within = omega (arith, w.place, printout_short file); printed = w.bytes; kept = w.kept }

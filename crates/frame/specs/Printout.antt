@@ -3,45 +3,45 @@
 -- header names the ports below N as shown; one space parts the fields and each line ends in LF. The program stops at the
 -- first refusal and prints "refused", a space and its number."
 use Rattle.std.specs.Prelude.{ℕ, zero, suc, ◌+◌, ◌*◌, ◌≤◌, List, [], ◌∷◌, ◌++◌, ◌≡◌, length, take, drop, replicate}
-use Rattle.refusal.specs.Chain.{ifAccepted}
-use Rattle.plan.specs.Range.{mostPorts, mostSlots}
+use Rattle.refusal.specs.Chain.{if_accepted}
+use Rattle.plan.specs.Range.{most_ports, most_slots}
 use Rattle.plan.specs.declared.Plan.{Plan}
 use Rattle.planfile.specs.Read.{read_of}
 use Rattle.fabric.specs.Answer.{answer_of}
 use Rattle.fabric.specs.declared.flow.Answer.{Answer}
 use Rattle.fabric.specs.declared.flow.Answer.TheVariants.{Idle, Empty, Moved}
 use Rattle.fabric.specs.declared.flow.Port.{Port}
-use Rattle.planpair.specs.Rates.{planRates}
+use Rattle.planpair.specs.Rates.{plan_rates}
 use Rattle.crossbar.specs.Start.{start_of}
 use Rattle.crossbar.specs.Step.{step_of}
 use Rattle.crossbar.specs.declared.state.Switch.{Switch}
-use Rattle.console.specs.Text.{decimalOf}
-use Rattle.console.specs.Refused.{lineEnd, refusalLineOf}
-use Rattle.console.specs.TextBelow.{textBelow}
+use Rattle.console.specs.Text.{decimal_of}
+use Rattle.console.specs.Refused.{line_end, refusal_line_of}
+use Rattle.console.specs.TextBelow.{text_below}
 
 -- "slot"
 abbrev slot_name : List ℕ
 slot_name = 115 ∷ 108 ∷ 111 ∷ 116 ∷ []
 
 -- " in", with the space that parts it from the field before
-abbrev pub inputName : List ℕ
-inputName = 32 ∷ 105 ∷ 110 ∷ []
+abbrev pub input_name : List ℕ
+input_name = 32 ∷ 105 ∷ 110 ∷ []
 
 -- " out"
-abbrev pub outputName : List ℕ
-outputName = 32 ∷ 111 ∷ 117 ∷ 116 ∷ []
+abbrev pub output_name : List ℕ
+output_name = 32 ∷ 111 ∷ 117 ∷ 116 ∷ []
 
 -- the ports below n, each by its side's name and its number
 abbrev pub names_of : List ℕ → ℕ → List ℕ
-names_of side n = textBelow (λ p. side ++ decimalOf p) n
+names_of side n = text_below (λ p. side ++ decimal_of p) n
 
 -- "The header names the ports below N as shown"
-unfoldable pub headerOf : ℕ → List ℕ
-headerOf n = slot_name ++ names_of inputName n ++ names_of outputName n ++ lineEnd
+unfoldable pub header_of : ℕ → List ℕ
+header_of n = slot_name ++ names_of input_name n ++ names_of output_name n ++ line_end
 
 -- the port that was chosen
 abbrev pub chosen_of : ℕ → List ℕ
-chosen_of other = 32 ∷ decimalOf other
+chosen_of other = 32 ∷ decimal_of other
 
 -- "-" for idle
 abbrev pub choice_of : Answer → List ℕ
@@ -50,55 +50,55 @@ choice_of (Empty other) = chosen_of other
 choice_of (Moved other cell) = chosen_of other
 
 -- the choices of the ports below n
-abbrev pub sideChoicesOf : List Port → ℕ → List ℕ
-sideChoicesOf ports n = textBelow (λ p. choice_of (answer_of ports p)) n
+abbrev pub side_choices_of : List Port → ℕ → List ℕ
+side_choices_of ports n = text_below (λ p. choice_of (answer_of ports p)) n
 
 -- "a line a slot with the slot, the output chosen by each input, the input chosen by each output"
-unfoldable pub slotLineOf : ℕ → List Port → List Port → ℕ → List ℕ
-slotLineOf slot boards heads n = decimalOf slot ++ sideChoicesOf boards n ++ sideChoicesOf heads n ++ lineEnd
+unfoldable pub slot_line_of : ℕ → List Port → List Port → ℕ → List ℕ
+slot_line_of slot boards heads n = decimal_of slot ++ side_choices_of boards n ++ side_choices_of heads n ++ line_end
 
 -- the lines of the slots from `slot` on, `left` of them: each step gets the state that the last one returned, and "the
 -- program stops at the first refusal"
-unfoldable pub slotLinesOf : Switch → List ℕ → ℕ → ℕ → ℕ → List ℕ
-slotLinesOf s store n slot zero = []
-slotLinesOf s store n slot (suc left) =
+unfoldable pub slot_lines_of : Switch → List ℕ → ℕ → ℕ → ℕ → List ℕ
+slot_lines_of s store n slot zero = []
+slot_lines_of s store n slot (suc left) =
     let done = step_of s store in
-    ifAccepted done.verdict
-    (slotLineOf slot done.moves done.sends n ++ slotLinesOf done.state store n (suc slot) left)
-    (refusalLineOf done.verdict)
+    if_accepted done.verdict
+    (slot_line_of slot done.moves done.sends n ++ slot_lines_of done.state store n (suc slot) left)
+    (refusal_line_of done.verdict)
 
 -- "a header, then a line a slot" of one frame from a fresh start. No cell arrives, and "neither queues nor crossings are
 -- looked at" by a choice: a store for Q = 1 will do.
-unfoldable pub framePrintoutOf : Plan → List ℕ
-framePrintoutOf plan =
+unfoldable pub frame_printout_of : Plan → List ℕ
+frame_printout_of plan =
     let n = plan.ports in
     let store : List ℕ = replicate (n * n) 0 in
-    let started = start_of n plan.frame (planRates plan) 1 store in
-    ifAccepted started.verdict
-    (headerOf n ++ slotLinesOf started.state store n 0 plan.frame)
-    (refusalLineOf started.verdict)
+    let started = start_of n plan.frame (plan_rates plan) 1 store in
+    if_accepted started.verdict
+    (header_of n ++ slot_lines_of started.state store n 0 plan.frame)
+    (refusal_line_of started.verdict)
 
 -- what the program prints of the file with these bytes
-unfoldable pub printoutOf : List ℕ → List ℕ
-printoutOf file =
+unfoldable pub printout_of : List ℕ → List ℕ
+printout_of file =
     let reading = read_of file in
-    ifAccepted reading.verdict (framePrintoutOf reading.plan) (refusalLineOf reading.verdict)
+    if_accepted reading.verdict (frame_printout_of reading.plan) (refusal_line_of reading.verdict)
 
 -- Room for every printout, by proofs/RoomLaws.antt: a port has at most two digits, and a slot four.
 -- "slot", the names of inputs and outputs, LF
-abbrev pub headerRoom : ℕ
-headerRoom = 4 + mostPorts * 5 + mostPorts * 6 + 1
+abbrev pub header_room : ℕ
+header_room = 4 + most_ports * 5 + most_ports * 6 + 1
 
 -- the slot, the choices of inputs and outputs, LF
-abbrev pub slotLineRoom : ℕ
-slotLineRoom = 4 + mostPorts * 3 + mostPorts * 3 + 1
+abbrev pub slot_line_room : ℕ
+slot_line_room = 4 + most_ports * 3 + most_ports * 3 + 1
 
-abbrev pub printoutRoom : ℕ
-printoutRoom = headerRoom + mostSlots * slotLineRoom
+abbrev pub printout_room : ℕ
+printout_room = header_room + most_slots * slot_line_room
 
 -- what `printout` ensures of the buffer that it is lent and of its answer r: the first r bytes are the printout of the file,
 -- and the others are as they were
 pub record Prints (file before after : List ℕ) (r : ℕ) : Type 0 where
   pub within : r ≤ length after
-  pub printed : take r after ≡ printoutOf file
+  pub printed : take r after ≡ printout_of file
   pub kept : drop r after ≡ drop r before

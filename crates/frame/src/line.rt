@@ -1,8 +1,8 @@
 // The lines of the printout. Each function writes into a buffer from the place `at` and answers the place behind.
 ghost use Rattle.std.specs.Prelude.{◌≤◌};
-ghost use Rattle.plan.specs.Range.{mostPorts};
+ghost use Rattle.plan.specs.Range.{most_ports};
 ghost use Rattle.console.specs.Text.{HasRoom, Written};
-ghost use Rattle.frame.specs.Printout.{names_of, chosen_of, choice_of, sideChoicesOf, headerOf, slotLineOf};
+ghost use Rattle.frame.specs.Printout.{names_of, chosen_of, choice_of, side_choices_of, header_of, slot_line_of};
 
 use console::text::{number, put};
 use fabric::flow::{Answer, Port};
@@ -44,8 +44,8 @@ fn choice(out: &mut [u8], at: usize, port: Port) -> usize
 
 // The choices of the ports of one side.
 fn choices(out: &mut [u8], from: usize, ports: [Port; MOST_PORTS], n: usize) -> usize
-    requires { (n ≤ mostPorts) × HasRoom out.old from (sideChoicesOf ports n) }
-    ensures { Written out.old from (sideChoicesOf ports n) out.new result }
+    requires { (n ≤ most_ports) × HasRoom out.old from (side_choices_of ports n) }
+    ensures { Written out.old from (side_choices_of ports n) out.new result }
 {
     let mut at = from;
     for p in 0..n {
@@ -56,8 +56,8 @@ fn choices(out: &mut [u8], from: usize, ports: [Port; MOST_PORTS], n: usize) -> 
 }
 
 pub fn header(out: &mut [u8], at: usize, n: usize) -> usize
-    requires { HasRoom out.old at (headerOf n) }
-    ensures { Written out.old at (headerOf n) out.new result }
+    requires { HasRoom out.old at (header_of n) }
+    ensures { Written out.old at (header_of n) out.new result }
 {
     let boards_at = put(out, at, b"slot");
     let heads_at = names(out, boards_at, b" in", n);
@@ -73,8 +73,8 @@ pub fn slot_line(
     heads: [Port; MOST_PORTS],
     n: usize,
 ) -> usize
-    requires { (n ≤ mostPorts) × HasRoom out.old at (slotLineOf slot boards heads n) }
-    ensures { Written out.old at (slotLineOf slot boards heads n) out.new result }
+    requires { (n ≤ most_ports) × HasRoom out.old at (slot_line_of slot boards heads n) }
+    ensures { Written out.old at (slot_line_of slot boards heads n) out.new result }
 {
     let boards_at = number(out, at, slot as u64);
     let heads_at = choices(out, boards_at, boards, n);

@@ -1,6 +1,6 @@
 // Reads a plan file from standard input and prints the choices of one frame, or the number of the refusal.
 ghost use Rattle.std.specs.Prelude.{◌≡◌, length};
-ghost use Rattle.frame.specs.Input.{mostInput};
+ghost use Rattle.frame.specs.Input.{most_input};
 
 use crate::printout::{PRINTOUT_ROOM, printout};
 use console::input::{Input, read_input};
@@ -15,7 +15,7 @@ mod printout;
 const MOST_INPUT: usize = LONGEST_FILE + 1;
 
 fn input_room() -> [u8; MOST_INPUT]
-    ensures { length result ≡ mostInput }
+    ensures { length result ≡ most_input }
 {
     [0; MOST_INPUT]
 }

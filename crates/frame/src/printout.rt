@@ -1,8 +1,8 @@
 // The printout of a plan file, as a whole.
 ghost use Rattle.std.specs.Prelude.{◌≤◌};
-ghost use Rattle.plan.specs.Range.{mostPorts};
+ghost use Rattle.plan.specs.Range.{most_ports};
 ghost use Rattle.console.specs.Text.{HasRoom, Written};
-ghost use Rattle.frame.specs.Printout.{slotLinesOf, framePrintoutOf, Prints};
+ghost use Rattle.frame.specs.Printout.{slot_lines_of, frame_printout_of, Prints};
 
 use crate::line::{header, slot_line};
 use console::text::refusal_line;
@@ -31,8 +31,8 @@ fn slot_lines(
     n: usize,
     frame: u32,
 ) -> usize
-    requires { (n ≤ mostPorts) × HasRoom out.old from (slotLinesOf fresh store.now n 0 frame) }
-    ensures { Written out.old from (slotLinesOf fresh store.now n 0 frame) out.new result }
+    requires { (n ≤ most_ports) × HasRoom out.old from (slot_lines_of fresh store.now n 0 frame) }
+    ensures { Written out.old from (slot_lines_of fresh store.now n 0 frame) out.new result }
 {
     let mut state = fresh;
     let mut at = from;
@@ -52,8 +52,8 @@ fn slot_lines(
 
 // One frame from a fresh start. No cell arrives: the choices don't look at queues, so a store for Q = 1 will do.
 fn frame_printout(out: &mut [u8], plan: Plan) -> usize
-    requires { (plan.ports ≤ mostPorts) × HasRoom out.old 0 (framePrintoutOf plan) }
-    ensures { Written out.old 0 (framePrintoutOf plan) out.new result }
+    requires { (plan.ports ≤ most_ports) × HasRoom out.old 0 (frame_printout_of plan) }
+    ensures { Written out.old 0 (frame_printout_of plan) out.new result }
 {
     let n = plan.ports;
     let rates = plan.rates;

@@ -2,8 +2,8 @@
 use Rattle.std.specs.Prelude.{ℕ, ◌+◌, ◌*◌}
 
 -- a version's parts as one number, of which the larger is the later
-abbrev pub versionOf : ℕ → ℕ → ℕ → ℕ
-versionOf major minor patch = major * 10000 + minor * 100 + patch
+abbrev pub version_of : ℕ → ℕ → ℕ → ℕ
+version_of major minor patch = major * 10000 + minor * 100 + patch
 
-abbrev pub versionNumber : ℕ
-versionNumber = versionOf 0 15 0
+abbrev pub version_number : ℕ
+version_number = version_of 0 15 0

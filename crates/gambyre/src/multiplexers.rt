@@ -1,8 +1,8 @@
 // One port's multiplexer.
 ghost use Rattle.std.specs.Prelude.{◌≡◌};
-ghost use Rattle.multiplexer.specs.Choose.{chooseOf};
-ghost use Rattle.multiplexer.specs.Count.{count_of, endFrameOf};
-ghost use Rattle.records.specs.Records.{choiceRecord, choiceIn};
+ghost use Rattle.multiplexer.specs.Choose.{choose_of};
+ghost use Rattle.multiplexer.specs.Count.{count_of, end_frame_of};
+ghost use Rattle.records.specs.Records.{choice_record, choice_in};
 
 use multiplexer::Multiplexer;
 use records::{ChoiceRecord, choice_in, choice_record};
@@ -14,21 +14,21 @@ pub extern "C" fn gambyre_choose(
     frame: u32,
     slot: u32,
 ) -> ChoiceRecord
-    ensures { result ≡ choiceRecord (chooseOf rates.now multiplexer.served frame slot) }
+    ensures { result ≡ choice_record (choose_of rates.now multiplexer.served frame slot) }
 {
     choice_record(multiplexer.choose(rates, frame, slot))
 }
 
 #[unsafe(no_mangle)]
 pub extern "C" fn gambyre_count(multiplexer: Multiplexer, choice: ChoiceRecord) -> Multiplexer
-    ensures { result ≡ count_of multiplexer (choiceIn choice) }
+    ensures { result ≡ count_of multiplexer (choice_in choice) }
 {
     multiplexer.count(choice_in(choice))
 }
 
 #[unsafe(no_mangle)]
 pub extern "C" fn gambyre_end_frame(multiplexer: Multiplexer, n: usize) -> Multiplexer
-    ensures { result ≡ endFrameOf multiplexer n }
+    ensures { result ≡ end_frame_of multiplexer n }
 {
     multiplexer.end_frame(n)
 }

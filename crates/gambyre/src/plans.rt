@@ -1,15 +1,15 @@
 // Plans: acceptance, the desk view, the regulator, the plan file and the plan's text.
 ghost use Rattle.std.specs.Prelude.{◌≡◌, min};
-ghost use Rattle.refusal.specs.Number.{verdictNumberOf};
-ghost use Rattle.plan.specs.Accept.{acceptOf};
-ghost use Rattle.plan.specs.Desk.{deskOf};
+ghost use Rattle.refusal.specs.Number.{verdict_number_of};
+ghost use Rattle.plan.specs.Accept.{accept_of};
+ghost use Rattle.plan.specs.Desk.{desk_of};
 ghost use Rattle.plan.specs.Flag.{is_set};
 ghost use Rattle.regulator.specs.Scale.{scale_of};
-ghost use Rattle.regulator.specs.Boost.{boostOf};
+ghost use Rattle.regulator.specs.Boost.{boost_of};
 ghost use Rattle.planfile.specs.Read.{read_of};
-ghost use Rattle.plantext.specs.Read.{readTextOf};
-ghost use Rattle.records.specs.Records.{readingRecord};
-ghost use Rattle.gambyre.specs.Written.{numbered, outcomeRecord, viewRecord};
+ghost use Rattle.plantext.specs.Read.{read_text_of};
+ghost use Rattle.records.specs.Records.{reading_record};
+ghost use Rattle.gambyre.specs.Written.{numbered, outcome_record, view_record};
 
 use plan::acceptance::accept;
 use plan::desk::desk_view;
@@ -21,7 +21,7 @@ use regulator::scale::scale;
 
 #[unsafe(no_mangle)]
 pub extern "C" fn gambyre_accept(n: usize, t: u32, rates: &[u16]) -> u32
-    ensures { result ≡ verdictNumberOf (acceptOf n t rates.now) }
+    ensures { result ≡ verdict_number_of (accept_of n t rates.now) }
 {
     verdict_number(accept(n, t, rates))
 }
@@ -34,7 +34,7 @@ fn smaller(a: usize, b: usize) -> usize
 
 // Copies as much of the row as `out` takes, and answers the row's length.
 fn copy_row(row: &[u16], out: &mut [u16]) -> usize
-    ensures { numbered result out.new ≡ viewRecord row.now out.old }
+    ensures { numbered result out.new ≡ view_record row.now out.old }
 {
     for k in 0..smaller(row.len(), out.len()) {
         out[k] = row[k];
@@ -52,14 +52,14 @@ pub extern "C" fn gambyre_desk_view<'a>(
     takeover: u32,
     out: &mut [u16],
 ) -> usize
-    ensures { numbered result out.new ≡ viewRecord (deskOf running.now waiting.now n i (is_set takeover)) out.old }
+    ensures { numbered result out.new ≡ view_record (desk_of running.now waiting.now n i (is_set takeover)) out.old }
 {
     copy_row(desk_view(running, waiting, n, i, takeover != 0), out)
 }
 
 #[unsafe(no_mangle)]
 pub extern "C" fn gambyre_scale(n: usize, t: u32, demands: &[u16], rates: &mut [u16]) -> u32
-    ensures { numbered result rates.new ≡ outcomeRecord (scale_of n t demands.now rates.old) }
+    ensures { numbered result rates.new ≡ outcome_record (scale_of n t demands.now rates.old) }
 {
     verdict_number(scale(n, t, demands, rates))
 }
@@ -72,21 +72,21 @@ pub extern "C" fn gambyre_boost(
     given: &[u16],
     rates: &mut [u16],
 ) -> u32
-    ensures { numbered result rates.new ≡ outcomeRecord (boostOf n t period given.now rates.old) }
+    ensures { numbered result rates.new ≡ outcome_record (boost_of n t period given.now rates.old) }
 {
     verdict_number(boost(n, t, period, given, rates))
 }
 
 #[unsafe(no_mangle)]
 pub extern "C" fn gambyre_read(bytes: &[u8]) -> ReadingRecord
-    ensures { result ≡ readingRecord (read_of bytes.now) }
+    ensures { result ≡ reading_record (read_of bytes.now) }
 {
     reading_record(read(bytes))
 }
 
 #[unsafe(no_mangle)]
 pub extern "C" fn gambyre_read_text(n: usize, t: u32, text: &[u8], rates: &mut [u16]) -> u32
-    ensures { numbered result rates.new ≡ outcomeRecord (readTextOf n t text.now rates.old) }
+    ensures { numbered result rates.new ≡ outcome_record (read_text_of n t text.now rates.old) }
 {
     verdict_number(read_text(n, t, text, rates))
 }

@@ -1,11 +1,11 @@
 // The switch: start, arrival, load and step.
 ghost use Rattle.std.specs.Prelude.{◌≡◌};
 ghost use Rattle.crossbar.specs.Start.{start_of};
-ghost use Rattle.crossbar.specs.Arrive.{arriveOf};
+ghost use Rattle.crossbar.specs.Arrive.{arrive_of};
 ghost use Rattle.crossbar.specs.Load.{load_of};
 ghost use Rattle.crossbar.specs.Step.{step_of};
-ghost use Rattle.records.specs.Records.{replyRecord, slotRecord};
-ghost use Rattle.gambyre.specs.Written.{arrived, arrivalRecord};
+ghost use Rattle.records.specs.Records.{reply_record, slot_record};
+ghost use Rattle.gambyre.specs.Written.{arrived, arrival_record};
 
 use crossbar::start::start;
 use crossbar::state::Switch;
@@ -19,7 +19,7 @@ pub extern "C" fn gambyre_start(
     depth: usize,
     store: &[u32],
 ) -> ReplyRecord
-    ensures { result ≡ replyRecord (start_of n t rates.now depth store.now) }
+    ensures { result ≡ reply_record (start_of n t rates.now depth store.now) }
 {
     reply_record(start(n, t, rates, depth, store))
 }
@@ -32,21 +32,21 @@ pub extern "C" fn gambyre_arrive(
     j: usize,
     cell: u32,
 ) -> ReplyRecord
-    ensures { arrived result store.new ≡ arrivalRecord (arriveOf state store.old i j cell) }
+    ensures { arrived result store.new ≡ arrival_record (arrive_of state store.old i j cell) }
 {
     reply_record(state.arrive(store, i, j, cell))
 }
 
 #[unsafe(no_mangle)]
 pub extern "C" fn gambyre_load(state: Switch, n: usize, t: u32, rates: &[u16]) -> ReplyRecord
-    ensures { result ≡ replyRecord (load_of state n t rates.now) }
+    ensures { result ≡ reply_record (load_of state n t rates.now) }
 {
     reply_record(state.load(n, t, rates))
 }
 
 #[unsafe(no_mangle)]
 pub extern "C" fn gambyre_step(state: Switch, store: &[u32]) -> SlotRecord
-    ensures { result ≡ slotRecord (step_of state store.now) }
+    ensures { result ≡ slot_record (step_of state store.now) }
 {
     slot_record(state.step(store))
 }

@@ -4,32 +4,32 @@ use mathlib.Core.Path.{◌≡◌, refl, ap, ◌∙◌}
 use mathlib.Core.List.{List}
 use native.Mathlib.Omega.{arith}
 use lib.ListN.{length, get_or}
-use Rattle.plan.specs.Range.{mostFlows}
+use Rattle.plan.specs.Range.{most_flows}
 use Rattle.plan.specs.Lines.{flow_of}
-use Rattle.planpair.specs.Rates.{planRates}
-use Rattle.multiplexer.specs.Choose.{chooseOf}
-use Rattle.multiplexer.specs.Serve.{serveOf}
-use Rattle.multiplexer.specs.Window.{columnOf}
+use Rattle.planpair.specs.Rates.{plan_rates}
+use Rattle.multiplexer.specs.Choose.{choose_of}
+use Rattle.multiplexer.specs.Serve.{serve_of}
+use Rattle.multiplexer.specs.Window.{column_of}
 use Rattle.multiplexer.specs.declared.Choice.{Choice}
 use Rattle.multiplexer.specs.declared.Choice.TheVariants.{Idle, Flow}
 use Rattle.multiplexer.specs.declared.Multiplexer.{Multiplexer}
-use Rattle.multiplexer.proofs.PortLaws.{column-length}
-use Rattle.meter.specs.Record.{entry_of, nextSlot}
-use Rattle.side.specs.Choices.{noMultiplexer, choiceAt}
+use Rattle.multiplexer.proofs.PortLaws.{column_length}
+use Rattle.meter.specs.Record.{entry_of, next_slot}
+use Rattle.side.specs.Choices.{no_multiplexer, choice_at}
 use Rattle.side.proofs.ChoiceLaws.{choices-at}
 use Rattle.side.proofs.CountLaws.{counts-at}
-use Rattle.fabric.specs.Flow.{noPoint}
+use Rattle.fabric.specs.Flow.{no_point}
 use Rattle.fabric.specs.Answer.{answer_of}
 use Rattle.fabric.proofs.MoveLaws.{moves-length}
-use Rattle.fabric.proofs.SendLaws.{send-case, sends-answer-idle, sends-served}
-use Rattle.crossbar.specs.Step.{boardChoices, headChoices, slotMoves, slotSends, endsFrame, afterSlot}
+use Rattle.fabric.proofs.SendLaws.{send_case, sends-answer-idle, sends-served}
+use Rattle.crossbar.specs.Step.{board_choices, head_choices, slot_moves, slot_sends, ends_frame, after_slot}
 use Rattle.crossbar.specs.declared.state.Switch.{Switch}
 use Rattle.runs.proofs.SoundLaws.{Sound}
 use Rattle.runs.proofs.StepLaws.{heads-can}
-use Rattle.headrecords.specs.HeadRecord.{entryFor}
+use Rattle.headrecords.specs.HeadRecord.{entry_for}
 
-abbrev pub headAt : Switch → ℕ → Multiplexer
-headAt s j = get_or s.fabric.heads j noMultiplexer
+abbrev pub head_at : Switch → ℕ → Multiplexer
+head_at s j = get_or s.fabric.heads j no_multiplexer
 
 module _ {u : Switch} {store : List ℕ} (ok : Sound u store) (lent : List ℕ) (j : ℕ) (hj : j < u.running.ports) where
   abbrev n : ℕ
@@ -37,33 +37,33 @@ module _ {u : Switch} {store : List ℕ} (ok : Sound u store) (lent : List ℕ) 
 
   -- the head's slot, by itself
   abbrev column : List ℕ
-  column = columnOf (planRates u.running) n j
+  column = column_of (plan_rates u.running) n j
 
-  chooses : choiceAt (headChoices u) j ≡ chooseOf column (headAt u j).served u.running.frame u.slot
-  unfolding headChoices
-  chooses = choices-at _ u.fabric.heads u.running.frame u.slot n j hj ok.plan.few-ports
+  chooses : choice_at (head_choices u) j ≡ choose_of column (head_at u j).served u.running.frame u.slot
+  unfolding head_choices
+  chooses = choices-at _ u.fabric.heads u.running.frame u.slot n j hj ok.plan.few_ports
 
-  points-full : length (slotMoves u lent).crosspoints ≡ mostFlows
-  points-full = (moves-length n u.depth lent (boardChoices u) u.fabric.queues u.fabric.crosspoints n).points_kept ∙ ok.points-size
+  points-full : length (slot_moves u lent).crosspoints ≡ most_flows
+  points-full = (moves-length n u.depth lent (board_choices u) u.fabric.queues u.fabric.crosspoints n).points_kept ∙ ok.points_size
 
-  answers : entryFor (answer_of (slotSends u lent).ports j) ≡ entry_of (choiceAt (headChoices u) j)
-  answers = go (choiceAt (headChoices u) j) refl
+  answers : entry_for (answer_of (slot_sends u lent).ports j) ≡ entry_of (choice_at (head_choices u) j)
+  answers = go (choice_at (head_choices u) j) refl
     where
-      go : (c : Choice) → choiceAt (headChoices u) j ≡ c → entryFor (answer_of (slotSends u lent).ports j) ≡ entry_of c
-      go Idle e = ap entryFor (sends-answer-idle n (headChoices u) (slotMoves u lent).crosspoints j hj e)
+      go : (c : Choice) → choice_at (head_choices u) j ≡ c → entry_for (answer_of (slot_sends u lent).ports j) ≡ entry_of c
+      go Idle e = ap entry_for (sends-answer-idle n (head_choices u) (slot_moves u lent).crosspoints j hj e)
       go (Flow i) e =
-          ap entryFor (sends-served n (headChoices u) (slotMoves u lent).crosspoints (heads-can ok) points-full i j hj e).answer
-          ∙ send-case (λ r. entryFor r.port.answer ≡ i) i (get_or (slotMoves u lent).crosspoints (flow_of n i j) noPoint) (λ _. refl) (λ _. refl)
+          ap entry_for (sends-served n (head_choices u) (slot_moves u lent).crosspoints (heads-can ok) points-full i j hj e).answer
+          ∙ send_case (λ r. entry_for r.port.answer ≡ i) i (get_or (slot_moves u lent).crosspoints (flow_of n i j) no_point) (λ _. refl) (λ _. refl)
 
-  pub head-answers : entryFor (answer_of (slotSends u lent).ports j) ≡ entry_of (serveOf (headAt u j) column u.running.frame u.slot).choice
+  pub head-answers : entry_for (answer_of (slot_sends u lent).ports j) ≡ entry_of (serve_of (head_at u j) column u.running.frame u.slot).choice
   head-answers = answers ∙ ap entry_of chooses
 
-  pub head-after : headAt (afterSlot u lent) j ≡ (serveOf (headAt u j) column u.running.frame u.slot).port
-  unfolding afterSlot
+  pub head-after : head_at (after_slot u lent) j ≡ (serve_of (head_at u j) column u.running.frame u.slot).port
+  unfolding after_slot
   head-after =
-      counts-at n (endsFrame u) (headChoices u) u.fabric.heads n j hj (omega (arith, ok.plan.few-ports, ok.heads-size))
-      ∙ rw (chooses, column-length (planRates u.running) n j) refl
+      counts-at n (ends_frame u) (head_choices u) u.fabric.heads n j hj (omega (arith, ok.plan.few_ports, ok.heads_size))
+      ∙ rw (chooses, column_length (plan_rates u.running) n j) refl
 
-  pub slot-after : (afterSlot u lent).slot ≡ nextSlot u.running.frame u.slot
-  unfolding afterSlot
+  pub slot-after : (after_slot u lent).slot ≡ next_slot u.running.frame u.slot
+  unfolding after_slot
   slot-after = refl

@@ -11,47 +11,47 @@ use Rattle.refusal.specs.declared.Verdict.TheVariants.{Accepted, Refused}
 use Rattle.plan.specs.Lines.{flow_of}
 use Rattle.plan.specs.Accept.{IsPlan}
 use Rattle.plan.proofs.AcceptLaws.{accepts}
-use Rattle.planpair.specs.Rates.{planRates}
-use Rattle.multiplexer.specs.Serve.{serveOf}
-use Rattle.multiplexer.specs.Window.{columnOf, FrameStart}
+use Rattle.planpair.specs.Rates.{plan_rates}
+use Rattle.multiplexer.specs.Serve.{serve_of}
+use Rattle.multiplexer.specs.Window.{column_of, FrameStart}
 use Rattle.multiplexer.specs.declared.Multiplexer.{Multiplexer}
 use Rattle.multiplexer.proofs.PacedLaws.{paced-full}
-use Rattle.multiplexer.proofs.PortLaws.{column-length}
-use Rattle.meter.specs.Record.{entry_of, recordFrom, UnderOnePlan}
+use Rattle.multiplexer.proofs.PortLaws.{column_length}
+use Rattle.meter.specs.Record.{entry_of, record_from, UnderOnePlan}
 use Rattle.meter.specs.Bound.{Smooth}
 use Rattle.meter.proofs.AnswerLaws.{covers-measures}
-use Rattle.meter.proofs.RecordLaws.{record-none, record-next, record-length}
-use Rattle.meter.proofs.Theorem.{head-smooth}
+use Rattle.meter.proofs.RecordLaws.{record_none, record_next, record_length}
+use Rattle.meter.proofs.Theorem.{head_smooth}
 use Rattle.crossbar.specs.declared.state.Switch.{Switch}
-use Rattle.runs.specs.Event.{Event, stateAfter, storeAfter}
+use Rattle.runs.specs.Event.{Event, state_after, store_after}
 use Rattle.runs.specs.Event.Event.{stepped, arrived, loaded}
-use Rattle.runs.specs.Run.{Run, Happens, Follow, finalState, finalStore}
-use Rattle.runs.specs.Flow.{total, slots, slotsIn}
-use Rattle.runs.proofs.RunLaws.{follow-append}
+use Rattle.runs.specs.Run.{Run, Happens, Follow, final_state, final_store}
+use Rattle.runs.specs.Flow.{total, slots, slots_in}
+use Rattle.runs.proofs.RunLaws.{follow_append}
 use Rattle.runs.proofs.SoundLaws.{Sound, head_near}
 use Rattle.runs.proofs.Theorem.{Known, known_start, known-run}
-use Rattle.headrecords.specs.HeadRecord.{headRecord, RunsIn, OnePlan, RecordPromise}
-use Rattle.headrecords.proofs.HeadLaws.{headAt}
+use Rattle.headrecords.specs.HeadRecord.{head_record, RunsIn, OnePlan, RecordPromise}
+use Rattle.headrecords.proofs.HeadLaws.{head_at}
 use Rattle.headrecords.proofs.TurnLaws.{Turn, event-turn}
 use Rattle.headrecords.proofs.TurnLaws.Turn.{quiet, slot}
 
 -- a record of no slot keeps every bound
-none-smooth : (flow a T : ℕ) → Smooth [] flow a T
-none-smooth flow a T =
+none_smooth : (flow a T : ℕ) → Smooth [] flow a T
+none_smooth flow a T =
     record {
       everywhere = λ l t some inside. absurd (omega arith);
       measured = λ l r some covers e. absurd (omega (arith, (covers-measures [] flow l r covers e).least.inside));
     }
 
 -- in slot 0 a head begins its frame
-head-starts : {s : Switch} {store : List ℕ} → Sound s store → s.slot ≡ 0 → (j : ℕ) → j < s.running.ports → FrameStart (headAt s j).served s.running.ports
-head-starts {s} ok zero-slot j hj =
+head_starts : {s : Switch} {store : List ℕ} → Sound s store → s.slot ≡ 0 → (j : ℕ) → j < s.running.ports → FrameStart (head_at s j).served s.running.ports
+head_starts {s} ok zero-slot j hj =
     record {
       full = paced-full (ok.heads j hj);
       zeros = λ i hi.
           let t = s.running.frame in
-          let close : get_or (headAt s j).served i 0 * t < 1 * t = omega (arith, rw zero-slot at (head_near ok i j hi hj).early) in
-          omega (arith, lt_of_mul-lt-mul_right t {m = get_or (headAt s j).served i 0} {n = 1} close);
+          let close : get_or (head_at s j).served i 0 * t < 1 * t = omega (arith, rw zero-slot at (head_near ok i j hi hj).early) in
+          omega (arith, lt_of_mul-lt-mul_right t {m = get_or (head_at s j).served i 0} {n = 1} close);
     }
 
 module _ (run : Run) (rates : List ℕ) (j : ℕ) (hj : j < run.ports) where
@@ -62,41 +62,41 @@ module _ (run : Run) (rates : List ℕ) (j : ℕ) (hj : j < run.ports) where
   T = run.frame
 
   abbrev rs : List ℕ
-  rs = columnOf rates n j
+  rs = column_of rates n j
 
-  known_next : {s : Switch} {store : List ℕ} (e : Event) → Known run s store → Happens s store e → Known run (stateAfter e) (storeAfter store e)
+  known_next : {s : Switch} {store : List ℕ} (e : Event) → Known run s store → Happens s store e → Known run (state_after e) (store_after store e)
   known_next {s} {store} e k h = known-run run s store (e ∷ []) k (h, tt)
 
-  turn-there : {s : Switch} {store : List ℕ} (e : Event) → Known run s store → Happens s store e → RunsIn rates e → Turn rs T j (headAt s j) s.slot e
+  turn-there : {s : Switch} {store : List ℕ} (e : Event) → Known run s store → Happens s store e → RunsIn rates e → Turn rs T j (head_at s j) s.slot e
   turn-there {s} e k h runs =
-      subst₂ (λ (m t : ℕ). Turn (columnOf rates m j) t j (headAt s j) s.slot e) k.ports k.frame
+      subst₂ (λ (m t : ℕ). Turn (column_of rates m j) t j (head_at s j) s.slot e) k.ports k.frame
       (event-turn k.sound rates j (omega (arith, k.ports)) e h runs)
 
   record-as : (es : List Event) {m m' : Multiplexer} {t t' : ℕ} → m ≡ m' → t ≡ t'
-      → headRecord j es ≡ recordFrom m rs T t (slots es) → headRecord j es ≡ recordFrom m' rs T t' (slots es)
+      → head_record j es ≡ record_from m rs T t (slots es) → head_record j es ≡ record_from m' rs T t' (slots es)
   record-as es a b rest = rw (sym a, sym b) rest
 
   -- one event's part of the record, and the rest
   turn-record : {m : Multiplexer} {t : ℕ} (e : Event) (es : List Event) → Turn rs T j m t e
-      → headRecord j es ≡ recordFrom (headAt (stateAfter e) j) rs T (stateAfter e).slot (slots es)
-      → headRecord j (e ∷ es) ≡ recordFrom m rs T t (slots (e ∷ es))
+      → head_record j es ≡ record_from (head_at (state_after e) j) rs T (state_after e).slot (slots es)
+      → head_record j (e ∷ es) ≡ record_from m rs T t (slots (e ∷ es))
   unfolding total
   turn-record e es (quiet none no_slot head there) rest = rw (none, no_slot, zero-add) (record-as es head there rest)
   turn-record {m} {t} e es (slot entry one head there) rest =
-      let longer : 1 + total slotsIn es ≡ suc (total slotsIn es) = omega arith in
-      rw (entry, one, longer, record-next m rs T t (total slotsIn es)) (ap (λ (l : List ℕ). entry_of (serveOf m rs T t).choice ∷ l) (record-as es head there rest))
+      let longer : 1 + total slots_in es ≡ suc (total slots_in es) = omega arith in
+      rw (entry, one, longer, record_next m rs T t (total slots_in es)) (ap (λ (l : List ℕ). entry_of (serve_of m rs T t).choice ∷ l) (record-as es head there rest))
 
   record_is : (s : Switch) (store : List ℕ) (es : List Event) → Known run s store → Follow s store es → OnePlan rates es
-      → headRecord j es ≡ recordFrom (headAt s j) rs T s.slot (slots es)
+      → head_record j es ≡ record_from (head_at s j) rs T s.slot (slots es)
   unfolding total
-  record_is s store [] k h one = sym (record-none (headAt s j) rs T s.slot)
+  record_is s store [] k h one = sym (record_none (head_at s j) rs T s.slot)
   record_is s store (e ∷ es) k h one =
       turn-record e es (turn-there e k h.0 one.0)
-      (record_is (stateAfter e) (storeAfter store e) es (known_next e k h.0) h.1 one.1)
+      (record_is (state_after e) (store_after store e) es (known_next e k h.0) h.1 one.1)
 
   -- a stretch with a slot in it runs an accepted plan
   plan-there : (s : Switch) (store : List ℕ) (es : List Event) → Known run s store → Follow s store es → OnePlan rates es
-      → (headRecord j es ≡ []) ⊎ IsPlan n T rates
+      → (head_record j es ≡ []) ⊎ IsPlan n T rates
   plan-there s store [] k h one = inl refl
   plan-there s store (stepped lent r ∷ es) k h one =
       go r.verdict refl (plan-there _ _ es after h.1 one.1)
@@ -104,54 +104,54 @@ module _ (run : Run) (rates : List ℕ) (j : ℕ) (hj : j < run.ports) where
       after : Known run r.state store
       after = known_next (stepped lent r) k h.0
 
-      go : (v : Verdict) → r.verdict ≡ v → (headRecord j es ≡ []) ⊎ IsPlan n T rates → (headRecord j (stepped lent r ∷ es) ≡ []) ⊎ IsPlan n T rates
+      go : (v : Verdict) → r.verdict ≡ v → (head_record j es ≡ []) ⊎ IsPlan n T rates → (head_record j (stepped lent r ∷ es) ≡ []) ⊎ IsPlan n T rates
       go Accepted e rest =
-          inr (subst (IsPlan n T) (one.0 e) (subst₂ (λ (m t : ℕ). IsPlan m t (planRates r.state.running)) after.ports after.frame after.sound.plan))
-      go (Refused why) e rest = ⊎_elim (λ (none : headRecord j es ≡ []). inl (rw e none)) inr rest
+          inr (subst (IsPlan n T) (one.0 e) (subst₂ (λ (m t : ℕ). IsPlan m t (plan_rates r.state.running)) after.ports after.frame after.sound.plan))
+      go (Refused why) e rest = ⊎_elim (λ (none : head_record j es ≡ []). inl (rw e none)) inr rest
   plan-there s store (arrived lent p q cell r left ∷ es) k h one = plan-there _ _ es (known_next (arrived lent p q cell r left) k h.0) h.1 one.1
   plan-there s store (loaded m t new r ∷ es) k h one = plan-there _ _ es (known_next (loaded m t new r) k h.0) h.1 one.1
 
   module _ (before stretch after : List Event) (cut : run.events ≡ before ++ (stretch ++ after)) where
     abbrev s : Switch
-    s = finalState run.reply.state before
+    s = final_state run.reply.state before
 
     abbrev store : List ℕ
-    store = finalStore run.store before
+    store = final_store run.store before
 
     parts : Follow run.reply.state run.store before × Follow s store (stretch ++ after)
-    parts = follow-append run.reply.state run.store before (stretch ++ after) (subst (Follow run.reply.state run.store) cut run.follow)
+    parts = follow_append run.reply.state run.store before (stretch ++ after) (subst (Follow run.reply.state run.store) cut run.follow)
 
     known-there : Known run s store
     known-there = known-run run run.reply.state run.store before (known_start run) parts.0
 
     follow-there : Follow s store stretch
-    follow-there = (follow-append s store stretch after parts.1).0
+    follow-there = (follow_append s store stretch after parts.1).0
 
     module _ (start : s.slot ≡ 0) (one : OnePlan rates stretch) where
-      from_start : headRecord j stretch ≡ recordFrom (headAt s j) rs T 0 (slots stretch)
-      from_start = subst (λ (t : ℕ). headRecord j stretch ≡ recordFrom (headAt s j) rs T t (slots stretch)) start (record_is s store stretch known-there follow-there one)
+      from_start : head_record j stretch ≡ record_from (head_at s j) rs T 0 (slots stretch)
+      from_start = subst (λ (t : ℕ). head_record j stretch ≡ record_from (head_at s j) rs T t (slots stretch)) start (record_is s store stretch known-there follow-there one)
 
-      whole : length (headRecord j stretch) ≡ slots stretch
-      whole = ap length from_start ∙ record-length (headAt s j) rs T 0 (slots stretch)
+      whole : length (head_record j stretch) ≡ slots stretch
+      whole = ap length from_start ∙ record_length (head_at s j) rs T 0 (slots stretch)
 
-      made : UnderOnePlan rs T (headRecord j stretch)
+      made : UnderOnePlan rs T (head_record j stretch)
       made =
           record {
-            port = headAt s j;
-            starts = rw (column-length rates n j, sym known-there.ports) (head-starts known-there.sound start j (omega (arith, known-there.ports)));
+            port = head_at s j;
+            starts = rw (column_length rates n j, sym known-there.ports) (head_starts known-there.sound start j (omega (arith, known-there.ports)));
             is = rw whole from_start;
           }
 
-      smooth : (i : ℕ) → i < n → Smooth (headRecord j stretch) i (get_or rates (flow_of n i j) 0) T
+      smooth : (i : ℕ) → i < n → Smooth (head_record j stretch) i (get_or rates (flow_of n i j) 0) T
       smooth i hi =
           ⊎_elim
-          (λ (none : headRecord j stretch ≡ []). rw none (none-smooth i (get_or rates (flow_of n i j) 0) T))
-          (λ (plan : IsPlan n T rates). head-smooth n T rates (accepts n T rates plan) i j hi hj (headRecord j stretch) made)
+          (λ (none : head_record j stretch ≡ []). rw none (none_smooth i (get_or rates (flow_of n i j) 0) T))
+          (λ (plan : IsPlan n T rates). head_smooth n T rates (accepts n T rates plan) i j hi hj (head_record j stretch) made)
           (plan-there s store stretch known-there follow-there one)
 
-pub records-of-every-run : (run : Run) → RecordPromise run
-records-of-every-run run before stretch after cut start rates one j hj =
-    let begun : (finalState run.reply.state before).slot ≡ 0 = omega (arith, start) in
+pub records_of_every_run : (run : Run) → RecordPromise run
+records_of_every_run run before stretch after cut start rates one j hj =
+    let begun : (final_state run.reply.state before).slot ≡ 0 = omega (arith, start) in
     record {
       whole = whole run rates j hj before stretch after cut begun one;
       made = made run rates j hj before stretch after cut begun one;

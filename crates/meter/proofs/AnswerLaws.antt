@@ -7,49 +7,49 @@ use native.Mathlib.Omega.{arith}
 use lib.Dec.{ltb}
 use lib.ListN.{length}
 use borrow.Author.Tests.{le-ltb, ltb-false}
-use Rattle.refusal.specs.Chain.{ifAccepted}
+use Rattle.refusal.specs.Chain.{if_accepted}
 use Rattle.refusal.specs.declared.Verdict.{Verdict}
 use Rattle.refusal.specs.declared.Verdict.TheVariants.{Accepted, Refused}
-use Rattle.refusal.proofs.ChainLaws.{refused-not-accepted, refuse-passed}
-use Rattle.meter.specs.Cover.{mostRecord, coverAt, Inside, FirstBest}
-use Rattle.meter.specs.Answer.{coverVerdict, Measures, refusedCover, CoversUnder, Covers, NoSlots, OneAnswer}
-use Rattle.meter.specs.Search.{orLess, orMore, kept_to, coverOf}
+use Rattle.refusal.proofs.ChainLaws.{refused_not_accepted, refuse_passed}
+use Rattle.meter.specs.Cover.{most_record, cover_at, Inside, FirstBest}
+use Rattle.meter.specs.Answer.{cover_verdict, Measures, refused_cover, CoversUnder, Covers, NoSlots, OneAnswer}
+use Rattle.meter.specs.Search.{or_less, or_more, kept_to, cover_of}
 use Rattle.meter.specs.declared.Measured.{Measured}
 use Rattle.meter.specs.declared.Stretch.{Stretch}
 use Rattle.meter.proofs.CoverLaws.{cover-within}
-use Rattle.meter.proofs.SearchLaws.{Order, Keeps, at_least, at_most, less-keeps, more-keeps, kept-first, first-only, first-in}
+use Rattle.meter.proofs.SearchLaws.{Order, Keeps, at_least, at_most, less_keeps, more_keeps, kept-first, first-only, first_in}
 
-or-false : (a b : Bool) → (a || b) ≡ false → (a ≡ false) × (b ≡ false)
-or-false true b e = let z : ◌≡◌ {A = ℕ} 0 1 = cc in absurd (omega arith)
-or-false false b e = (refl, e)
+or_false : (a b : Bool) → (a || b) ≡ false → (a ≡ false) × (b ≡ false)
+or_false true b e = let z : ◌≡◌ {A = ℕ} 0 1 = cc in absurd (omega arith)
+or_false false b e = (refl, e)
 
 -- a record that is not refused has the l slots, and is not too long
-pub accepted-record : (slots l : ℕ) → coverVerdict slots l ≡ Accepted → (l ≤ slots) × (slots ≤ mostRecord)
-unfolding coverVerdict
-accepted-record slots l e =
-    let both = or-false (ltb slots l) (ltb mostRecord slots) (refuse-passed _ _ _ e).0 in
-    (ltb-false slots l both.0, ltb-false mostRecord slots both.1)
+pub accepted_record : (slots l : ℕ) → cover_verdict slots l ≡ Accepted → (l ≤ slots) × (slots ≤ most_record)
+unfolding cover_verdict
+accepted_record slots l e =
+    let both = or_false (ltb slots l) (ltb most_record slots) (refuse_passed _ _ _ e).0 in
+    (ltb-false slots l both.0, ltb-false most_record slots both.1)
 
-record-accepted : (slots l : ℕ) → l ≤ slots → slots ≤ mostRecord → coverVerdict slots l ≡ Accepted
-unfolding coverVerdict
-record-accepted slots l h short = rw (le-ltb slots l h, le-ltb mostRecord slots short) refl
+record_accepted : (slots l : ℕ) → l ≤ slots → slots ≤ most_record → cover_verdict slots l ≡ Accepted
+unfolding cover_verdict
+record_accepted slots l h short = rw (le-ltb slots l h, le-ltb most_record slots short) refl
 
 module _ (recorded : List ℕ) (flow l : ℕ) where
   abbrev c : ℕ → ℕ
-  c = coverAt recorded flow l
+  c = cover_at recorded flow l
 
   abbrev last : ℕ
   last = length recorded - l
 
   -- what is kept of all places is the first best of those inside
   found : {R : ℕ → ℕ → Type 0} → Order R → (or : Stretch → ℕ → ℕ → Stretch) → Keeps R or → l ≤ length recorded → FirstBest R (Inside recorded l) c (kept_to or c last)
-  found order or keeps h = first-in (λ t m. omega arith) (λ t m. omega arith) (kept-first order or keeps c last)
+  found order or keeps h = first_in (λ t m. omega arith) (λ t m. omega arith) (kept-first order or keeps c last)
 
-  pub kept-measures : l ≤ length recorded → Measures recorded flow l (record { verdict = Accepted; least = kept_to orLess c last; most = kept_to orMore c last })
-  kept-measures h = record { accepted = refl; least = found at_least orLess less-keeps h; most = found at_most orMore more-keeps h }
+  pub kept-measures : l ≤ length recorded → Measures recorded flow l (record { verdict = Accepted; least = kept_to or_less c last; most = kept_to or_more c last })
+  kept-measures h = record { accepted = refl; least = found at_least or_less less_keeps h; most = found at_most or_more more_keeps h }
 
   covers-under : (v : Verdict) → (v ≡ Accepted → l ≤ length recorded)
-      → CoversUnder v recorded flow l (ifAccepted v (record { verdict = v; least = kept_to orLess c last; most = kept_to orMore c last }) (refusedCover v))
+      → CoversUnder v recorded flow l (if_accepted v (record { verdict = v; least = kept_to or_less c last; most = kept_to or_more c last }) (refused_cover v))
   covers-under Accepted h = kept-measures (h refl)
   covers-under (Refused why) h = refl
 
@@ -63,35 +63,35 @@ module _ (recorded : List ℕ) (flow l : ℕ) where
   only_under (Refused why) r r' m m' = m ∙ sym m'
 
   -- what the code answers under its verdict
-  pub covers-as : (v : Verdict) (r : Measured) → v ≡ coverVerdict (length recorded) l → CoversUnder v recorded flow l r → Covers recorded flow l r
+  pub covers-as : (v : Verdict) (r : Measured) → v ≡ cover_verdict (length recorded) l → CoversUnder v recorded flow l r → Covers recorded flow l r
   covers-as v r e is = subst (λ (w : Verdict). CoversUnder w recorded flow l r) e is
 
   -- an answer that is not refused is measured
   pub covers-measures : (r : Measured) → Covers recorded flow l r → r.verdict ≡ Accepted → Measures recorded flow l r
-  covers-measures r covers e = go (coverVerdict (length recorded) l) covers
+  covers-measures r covers e = go (cover_verdict (length recorded) l) covers
     where
       go : (v : Verdict) → CoversUnder v recorded flow l r → Measures recorded flow l r
       go Accepted is = is
-      go (Refused why) is = absurd (refused-not-accepted why (sym (ap (λ (x : Measured). x.verdict) is) ∙ e))
+      go (Refused why) is = absurd (refused_not_accepted why (sym (ap (λ (x : Measured). x.verdict) is) ∙ e))
 
-  pub cover-is : Covers recorded flow l (coverOf recorded flow l)
-  unfolding coverOf
-  cover-is = covers-under (coverVerdict (length recorded) l) (λ e. (accepted-record (length recorded) l e).0)
+  pub cover-is : Covers recorded flow l (cover_of recorded flow l)
+  unfolding cover_of
+  cover-is = covers-under (cover_verdict (length recorded) l) (λ e. (accepted_record (length recorded) l e).0)
 
-  pub cover-only : (r : Measured) → Covers recorded flow l r → r ≡ coverOf recorded flow l
-  cover-only r is = only_under (coverVerdict (length recorded) l) r (coverOf recorded flow l) is cover-is
+  pub cover-only : (r : Measured) → Covers recorded flow l r → r ≡ cover_of recorded flow l
+  cover-only r is = only_under (cover_verdict (length recorded) l) r (cover_of recorded flow l) is cover-is
 
   pub one_answer : OneAnswer (Covers recorded flow l)
-  one_answer = record { answer = coverOf recorded flow l; is = cover-is; only = cover-only }
+  one_answer = record { answer = cover_of recorded flow l; is = cover-is; only = cover-only }
 
-pub no-slots : (recorded : List ℕ) (flow : ℕ) → NoSlots recorded flow
-no-slots recorded flow short =
-    covers-as recorded flow 0 Accepted _ (sym (record-accepted (length recorded) 0 (omega arith) short))
+pub no_slots : (recorded : List ℕ) (flow : ℕ) → NoSlots recorded flow
+no_slots recorded flow short =
+    covers-as recorded flow 0 Accepted _ (sym (record_accepted (length recorded) 0 (omega arith) short))
     record {
       accepted = refl;
-      least = record { inside = omega arith; there = sym (none 0); none-better = λ t i. omega arith; none-earlier = λ t i e. omega arith };
-      most = record { inside = omega arith; there = sym (none 0); none-better = λ t i. omega (arith, none t); none-earlier = λ t i e. omega arith };
+      least = record { inside = omega arith; there = sym (none 0); none_better = λ t i. omega arith; none_earlier = λ t i e. omega arith };
+      most = record { inside = omega arith; there = sym (none 0); none_better = λ t i. omega (arith, none t); none_earlier = λ t i e. omega arith };
     }
   where
-    none : (t : ℕ) → coverAt recorded flow 0 t ≡ 0
+    none : (t : ℕ) → cover_at recorded flow 0 t ≡ 0
     none t = omega (arith, cover-within recorded flow 0 t)

@@ -5,22 +5,22 @@ use mathlib.Core.List.{List}
 use native.Mathlib.Omega.{arith}
 use lib.ListN.{length}
 use Rattle.refusal.specs.declared.Verdict.TheVariants.{Accepted}
-use Rattle.meter.specs.Cover.{coverAt}
+use Rattle.meter.specs.Cover.{cover_at}
 use Rattle.meter.specs.Answer.{Measures}
-use Rattle.meter.specs.Search.{orLess, orMore, kept_to}
+use Rattle.meter.specs.Search.{or_less, or_more, kept_to}
 use Rattle.meter.specs.declared.Stretch.{Stretch}
 use Rattle.meter.proofs.CoverLaws.{at, cover-slides}
 use Rattle.meter.proofs.AnswerLaws.{kept-measures}
 
 module _ (recorded : List ℕ) (flow l : ℕ) where
   abbrev c : ℕ → ℕ
-  c = coverAt recorded flow l
+  c = cover_at recorded flow l
 
   pub record Looked (p services : ℕ) (least most : Stretch) : Type 0 where
     pub some : 1 ≤ p
     pub here : services ≡ c (p - 1)
-    pub fewest : least ≡ kept_to orLess c (p - 1)
-    pub largest : most ≡ kept_to orMore c (p - 1)
+    pub fewest : least ≡ kept_to or_less c (p - 1)
+    pub largest : most ≡ kept_to or_more c (p - 1)
 
   pub looked-first : (services : ℕ) → services ≡ c 0 → Looked 1 services (record { services = services; place = 0 }) (record { services = services; place = 0 })
   unfolding kept_to
@@ -35,7 +35,7 @@ module _ (recorded : List ℕ) (flow l : ℕ) where
       rw (place, before) (cover-slides recorded flow l q)
 
   pub looked-next : (p : ℕ) {services here : ℕ} {least most fewest largest : Stretch} → Looked p services least most
-      → here ≡ c p → fewest ≡ orLess least here p → largest ≡ orMore most here p → Looked (p + 1) here fewest largest
+      → here ≡ c p → fewest ≡ or_less least here p → largest ≡ or_more most here p → Looked (p + 1) here fewest largest
   unfolding kept_to
   looked-next zero k e f g = absurd (omega (arith, k.some))
   looked-next (suc q) k e f g =

@@ -7,11 +7,11 @@ use mathlib.Core.List.{List}
 use native.Mathlib.Nat.{mul-le-mul_left, mul-le-mul_right, mul-sub}
 use native.Mathlib.Omega.{arith}
 use lib.ListN.{length, get_or}
-use Rattle.plan.proofs.BelowLaws.{lt-or-le}
-use Rattle.multiplexer.specs.Count.{servicesOf}
-use Rattle.multiplexer.specs.Frame.{choiceAt, servicesBefore}
+use Rattle.plan.proofs.BelowLaws.{lt_or_le}
+use Rattle.multiplexer.specs.Count.{services_of}
+use Rattle.multiplexer.specs.Frame.{choice_at, services_before}
 use Rattle.multiplexer.specs.Window.{WindowRule}
-use Rattle.multiplexer.proofs.CountLaws.{services-le-one}
+use Rattle.multiplexer.proofs.CountLaws.{services_le_one}
 use Rattle.multiplexer.proofs.RoundLaws.{le-rounded, above-rounded}
 use Rattle.meter.proofs.SumLaws.{sum-grows, sum_ones}
 
@@ -21,20 +21,20 @@ module _ (rs ks : List ℕ) (T f : ℕ) (rule : WindowRule rs ks T) (below : f <
 
   -- the services in the slots below t
   abbrev B : ℕ → ℕ
-  B t = servicesBefore rs ks T f t
+  B t = services_before rs ks T f t
 
   grows : (t u : ℕ) → t ≤ u → B t ≤ B u
-  grows t u l = sum-grows (λ v. servicesOf (choiceAt rs ks T v) f) t u l
+  grows t u l = sum-grows (λ v. services_of (choice_at rs ks T v) f) t u l
 
   -- a slot before which fewer services were given comes before
   earlier : (u t : ℕ) → B u < B t → u < t
-  earlier u t l = ⊎_elim (λ (b : u < t). b) (λ (b : t ≤ u). absurd (omega (arith, grows t u b))) (lt-or-le u t)
+  earlier u t l = ⊎_elim (λ (b : u < t). b) (λ (b : t ≤ u). absurd (omega (arith, grows t u b))) (lt_or_le u t)
 
   pub rate-within : a ≤ T
-  rate-within = omega (arith, rule.exactly f below, sum_ones (λ v. servicesOf (choiceAt rs ks T v) f) T (λ v. services-le-one (choiceAt rs ks T v) f))
+  rate-within = omega (arith, rule.exactly f below, sum_ones (λ v. services_of (choice_at rs ks T v) f) T (λ v. services_le_one (choice_at rs ks T v) f))
 
   pub pace-early : (t : ℕ) → t ≤ T → B t * T + a ≤ t * a + T
-  pace-early t l = ⊎_elim none some (lt-or-le (B t) 1)
+  pace-early t l = ⊎_elim none some (lt_or_le (B t) 1)
     where
       none : B t < 1 → B t * T + a ≤ t * a + T
       none z = let e : B t ≡ 0 = omega arith in omega (arith, ap (λ (k : ℕ). k * T) e, rate-within)
@@ -47,7 +47,7 @@ module _ (rs ks : List ℕ) (T f : ℕ) (rule : WindowRule rs ks T) (below : f <
           omega (arith, le-rounded _ a last.slot (omega arith) last.window.opens, mul-sub T (B t) 1, mul-le-mul_right a before)
 
   pub pace-late : (t : ℕ) → t ≤ T → 1 ≤ T → t * a < (B t + 1) * T
-  pace-late t l pos = ⊎_elim more all (lt-or-le (B t) a)
+  pace-late t l pos = ⊎_elim more all (lt_or_le (B t) a)
     where
       more : B t < a → t * a < (B t + 1) * T
       more h =

@@ -4,29 +4,29 @@ use mathlib.Core.Path.{◌≡◌, refl, ap, sym, subst, ◌∙◌}
 use mathlib.Core.Logic.{◌⊎◌, inl, inr, ⊎_elim}
 use native.Mathlib.Omega.{arith}
 use borrow.Author.Tests.{lt-ltb, le-ltb}
-use Rattle.plan.proofs.BelowLaws.{lt-or-le}
+use Rattle.plan.proofs.BelowLaws.{lt_or_le}
 use Rattle.meter.specs.Cover.{FirstBest}
-use Rattle.meter.specs.Search.{orLess, orMore, kept_to}
+use Rattle.meter.specs.Search.{or_less, or_more, kept_to}
 use Rattle.meter.specs.declared.Stretch.{Stretch}
 
 abbrev stretch : ℕ → ℕ → Stretch
 stretch services place = record { services = services; place = place }
 
-pub less-taken : (s : Stretch) (services place : ℕ) → services < s.services → orLess s services place ≡ stretch services place
-unfolding orLess
-less-taken s services place l = rw (lt-ltb services s.services l) refl
+pub less_taken : (s : Stretch) (services place : ℕ) → services < s.services → or_less s services place ≡ stretch services place
+unfolding or_less
+less_taken s services place l = rw (lt-ltb services s.services l) refl
 
-pub less-kept : (s : Stretch) (services place : ℕ) → s.services ≤ services → orLess s services place ≡ s
-unfolding orLess
-less-kept s services place l = rw (le-ltb services s.services l) refl
+pub less_kept : (s : Stretch) (services place : ℕ) → s.services ≤ services → or_less s services place ≡ s
+unfolding or_less
+less_kept s services place l = rw (le-ltb services s.services l) refl
 
-pub more-taken : (s : Stretch) (services place : ℕ) → s.services < services → orMore s services place ≡ stretch services place
-unfolding orMore
-more-taken s services place l = rw (lt-ltb s.services services l) refl
+pub more_taken : (s : Stretch) (services place : ℕ) → s.services < services → or_more s services place ≡ stretch services place
+unfolding or_more
+more_taken s services place l = rw (lt-ltb s.services services l) refl
 
-pub more-kept : (s : Stretch) (services place : ℕ) → services ≤ s.services → orMore s services place ≡ s
-unfolding orMore
-more-kept s services place l = rw (le-ltb s.services services l) refl
+pub more_kept : (s : Stretch) (services place : ℕ) → services ≤ s.services → or_more s services place ≡ s
+unfolding or_more
+more_kept s services place l = rw (le-ltb s.services services l) refl
 
 -- the order of "no better than"
 pub record Order (R : ℕ → ℕ → Type 0) : Type 0 where
@@ -46,19 +46,19 @@ at_least = record { itself = λ x. omega arith; through = λ x y z p q. omega ar
 pub at_most : Order (λ x best. x ≤ best)
 at_most = record { itself = λ x. omega arith; through = λ x y z p q. omega arith; both = λ x y p q. omega arith }
 
-pub less-keeps : Keeps (λ x best. best ≤ x) orLess
-less-keeps s services place =
+pub less_keeps : Keeps (λ x best. best ≤ x) or_less
+less_keeps s services place =
     ⊎_elim
-    (λ (l : services < s.services). inr (omega arith, (λ e. omega arith), less-taken s services place l))
-    (λ (l : s.services ≤ services). inl (l, less-kept s services place l))
-    (lt-or-le services s.services)
+    (λ (l : services < s.services). inr (omega arith, (λ e. omega arith), less_taken s services place l))
+    (λ (l : s.services ≤ services). inl (l, less_kept s services place l))
+    (lt_or_le services s.services)
 
-pub more-keeps : Keeps (λ x best. x ≤ best) orMore
-more-keeps s services place =
+pub more_keeps : Keeps (λ x best. x ≤ best) or_more
+more_keeps s services place =
     ⊎_elim
-    (λ (l : s.services < services). inr (omega arith, (λ e. omega arith), more-taken s services place l))
-    (λ (l : services ≤ s.services). inl (l, more-kept s services place l))
-    (lt-or-le s.services services)
+    (λ (l : s.services < services). inr (omega arith, (λ e. omega arith), more_taken s services place l))
+    (λ (l : services ≤ s.services). inl (l, more_kept s services place l))
+    (lt_or_le s.services services)
 
 module _ {R : ℕ → ℕ → Type 0} (order : Order R) where
   -- the places 0, .., p
@@ -71,7 +71,7 @@ module _ {R : ℕ → ℕ → Type 0} (order : Order R) where
       where
         -- what holds up to p and of suc p holds up to suc p
         upto : (P : ℕ → Type 0) → ((t : ℕ) → t ≤ p → P t) → P (suc p) → (t : ℕ) → t ≤ suc p → P t
-        upto P h last t l = ⊎_elim (λ (m : t < suc p). h t (omega arith)) (λ (m : suc p ≤ t). let e : suc p ≡ t = omega arith in subst P e last) (lt-or-le t (suc p))
+        upto P h last t l = ⊎_elim (λ (m : t < suc p). h t (omega arith)) (λ (m : suc p ≤ t). let e : suc p ≡ t = omega arith in subst P e last) (lt_or_le t (suc p))
 
         kept : R (c (suc p)) s.services × (or s (c (suc p)) (suc p) ≡ s) → FirstBest R (Upto (suc p)) c (or s (c (suc p)) (suc p))
         kept k =
@@ -79,8 +79,8 @@ module _ {R : ℕ → ℕ → Type 0} (order : Order R) where
             record {
               inside = omega (arith, b.inside);
               there = b.there;
-              none-better = upto (λ t. R (c t) s.services) b.none-better k.0;
-              none-earlier = upto (λ t. c t ≡ s.services → s.place ≤ t) b.none-earlier (λ _. omega (arith, b.inside));
+              none_better = upto (λ t. R (c t) s.services) b.none_better k.0;
+              none_earlier = upto (λ t. c t ≡ s.services → s.place ≤ t) b.none_earlier (λ _. omega (arith, b.inside));
             }
 
         taken : R s.services (c (suc p)) × (c (suc p) ≡ s.services → ⊥) × (or s (c (suc p)) (suc p) ≡ stretch (c (suc p)) (suc p))
@@ -90,9 +90,9 @@ module _ {R : ℕ → ℕ → Type 0} (order : Order R) where
             record {
               inside = omega arith;
               there = refl;
-              none-better = upto (λ t. R (c t) (c (suc p))) (λ t l. order.through (c t) s.services (c (suc p)) (b.none-better t l) k.0) (order.itself (c (suc p)));
-              none-earlier = upto (λ t. c t ≡ c (suc p) → suc p ≤ t)
-                  (λ t l e. absurd (k.1 (order.both (c (suc p)) s.services (subst (λ (x : ℕ). R x s.services) e (b.none-better t l)) k.0)))
+              none_better = upto (λ t. R (c t) (c (suc p))) (λ t l. order.through (c t) s.services (c (suc p)) (b.none_better t l) k.0) (order.itself (c (suc p)));
+              none_earlier = upto (λ t. c t ≡ c (suc p) → suc p ≤ t)
+                  (λ t l e. absurd (k.1 (order.both (c (suc p)) s.services (subst (λ (x : ℕ). R x s.services) e (b.none_better t l)) k.0)))
                   (λ _. omega arith);
             }
 
@@ -102,29 +102,29 @@ module _ {R : ℕ → ℕ → Type 0} (order : Order R) where
         record {
           inside = omega arith;
           there = refl;
-          none-better = λ t l. let e : 0 ≡ t = omega arith in subst (λ (u : ℕ). R (c u) (c 0)) e (order.itself (c 0));
-          none-earlier = λ t l e. omega arith;
+          none_better = λ t l. let e : 0 ≡ t = omega arith in subst (λ (u : ℕ). R (c u) (c 0)) e (order.itself (c 0));
+          none_earlier = λ t l e. omega arith;
         }
     kept-first (suc p) = first_next (kept_to or c p) p (kept-first p)
 
   -- there is one first best
   pub first-only : (In : ℕ → Type 0) (c : ℕ → ℕ) (s s' : Stretch) → FirstBest R In c s → FirstBest R In c s' → s ≡ s'
   first-only In c s s' b b' =
-      let worse : R s'.services s.services = subst (λ (x : ℕ). R x s.services) (sym b'.there) (b.none-better s'.place b'.inside) in
-      let better : R s.services s'.services = subst (λ (x : ℕ). R x s'.services) (sym b.there) (b'.none-better s.place b.inside) in
+      let worse : R s'.services s.services = subst (λ (x : ℕ). R x s.services) (sym b'.there) (b.none_better s'.place b'.inside) in
+      let better : R s.services s'.services = subst (λ (x : ℕ). R x s'.services) (sym b.there) (b'.none_better s.place b.inside) in
       let same : s.services ≡ s'.services = order.both s.services s'.services better worse in
-      let early : s.place ≤ s'.place = b.none-earlier s'.place b'.inside (sym b'.there ∙ sym same) in
-      let late : s'.place ≤ s.place = b'.none-earlier s.place b.inside (sym b.there ∙ same) in
+      let early : s.place ≤ s'.place = b.none_earlier s'.place b'.inside (sym b'.there ∙ sym same) in
+      let late : s'.place ≤ s.place = b'.none_earlier s.place b.inside (sym b.there ∙ same) in
       let there : s.place ≡ s'.place = omega arith in
       ap (λ (x : ℕ). stretch x s.place) same ∙ ap (stretch s'.services) there
 
 -- the same places said otherwise
-pub first-in : {R : ℕ → ℕ → Type 0} {In In' : ℕ → Type 0} {c : ℕ → ℕ} {s : Stretch}
+pub first_in : {R : ℕ → ℕ → Type 0} {In In' : ℕ → Type 0} {c : ℕ → ℕ} {s : Stretch}
     → ((t : ℕ) → In t → In' t) → ((t : ℕ) → In' t → In t) → FirstBest R In c s → FirstBest R In' c s
-first-in {s = s} to from b =
+first_in {s = s} to from b =
     record {
       inside = to s.place b.inside;
       there = b.there;
-      none-better = λ t l. b.none-better t (from t l);
-      none-earlier = λ t l. b.none-earlier t (from t l);
+      none_better = λ t l. b.none_better t (from t l);
+      none_earlier = λ t l. b.none_earlier t (from t l);
     }

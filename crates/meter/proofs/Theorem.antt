@@ -5,12 +5,12 @@ use mathlib.Core.List.{List}
 use native.Mathlib.Omega.{arith}
 use lib.ListN.{length, get_or}
 use Rattle.refusal.specs.declared.Verdict.TheVariants.{Accepted}
-use Rattle.plan.specs.Below.{sumBelow}
+use Rattle.plan.specs.Below.{sum_below}
 use Rattle.plan.proofs.AcceptLaws.{accepted}
-use Rattle.multiplexer.specs.Window.{columnOf, Fits, FrameStart, WindowRule}
-use Rattle.multiplexer.proofs.PortLaws.{column-length, column-rate, column_fits}
-use Rattle.multiplexer.proofs.WindowLaws.{window-promise}
-use Rattle.meter.specs.Cover.{coverAt, Inside}
+use Rattle.multiplexer.specs.Window.{column_of, Fits, FrameStart, WindowRule}
+use Rattle.multiplexer.proofs.PortLaws.{column_length, column_rate, column_fits}
+use Rattle.multiplexer.proofs.WindowLaws.{window_promise}
+use Rattle.meter.specs.Cover.{cover_at, Inside}
 use Rattle.meter.specs.Answer.{Covers}
 use Rattle.meter.specs.Record.{UnderOnePlan}
 use Rattle.meter.specs.Bound.{WithinBounds, Smooth, SmoothByWindows, SmoothHeads}
@@ -27,18 +27,18 @@ module _ (rs : List ℕ) (T : ℕ) (fits : Fits rs T) (rule : (ks : List ℕ) �
 
   -- the services in the first p slots
   abbrev C : ℕ → ℕ
-  C p = sumBelow (at recorded f) p
+  C p = sum_below (at recorded f) p
 
   near-at : (p : ℕ) → p ≤ length recorded → Near T a (C p) p
   near-at p l = near-there rs T fits rule f below recorded made p l
 
-  everywhere : (l t : ℕ) → 1 ≤ l → Inside recorded l t → WithinBounds l a T (coverAt recorded f l t) (coverAt recorded f l t)
+  everywhere : (l t : ℕ) → 1 ≤ l → Inside recorded l t → WithinBounds l a T (cover_at recorded f l t) (cover_at recorded f l t)
   everywhere l t some inside =
       let begin = near-at t (omega arith) in
-      let end : Near T a (C t + coverAt recorded f l t) (t + l) = rw (cover-split recorded f l t) (near-at (t + l) inside) in
+      let end : Near T a (C t + cover_at recorded f l t) (t + l) = rw (cover-split recorded f l t) (near-at (t + l) inside) in
       record {
-        at_least = near-least T a (C t) t l (coverAt recorded f l t) fits.some-slot begin end;
-        at_most = near-most T a (C t) t l (coverAt recorded f l t) fits.some-slot begin end some;
+        at_least = near-least T a (C t) t l (cover_at recorded f l t) fits.some_slot begin end;
+        at_most = near-most T a (C t) t l (cover_at recorded f l t) fits.some_slot begin end some;
       }
 
   measured : (l : ℕ) (r : Measured) → 1 ≤ l → Covers recorded f l r → r.verdict ≡ Accepted → WithinBounds l a T r.least.services r.most.services
@@ -49,15 +49,15 @@ module _ (rs : List ℕ) (T : ℕ) (fits : Fits rs T) (rule : (ks : List ℕ) �
         at_most = rw m.most.there (everywhere l r.most.place some m.most.inside).at_most;
       }
 
-pub smooth-by-windows : (rs : List ℕ) (T : ℕ) → SmoothByWindows rs T
-smooth-by-windows rs T fits rule recorded made f below =
+pub smooth_by_windows : (rs : List ℕ) (T : ℕ) → SmoothByWindows rs T
+smooth_by_windows rs T fits rule recorded made f below =
     record { everywhere = everywhere rs T fits rule f below recorded made; measured = measured rs T fits rule f below recorded made }
 
-pub head-smooth : (n T : ℕ) (rates : List ℕ) → SmoothHeads n T rates
-head-smooth n T rates ok i j hi hj recorded made =
+pub head_smooth : (n T : ℕ) (rates : List ℕ) → SmoothHeads n T rates
+head_smooth n T rates ok i j hi hj recorded made =
     let plan = accepted n T rates ok in
-    let size = column-length rates n j in
-    subst (λ (a : ℕ). Smooth recorded i a T) (column-rate rates n i j hi)
-    (smooth-by-windows (columnOf rates n j) T (column_fits n T rates plan j hj)
-    (λ ks start. (window-promise n T rates ok).outputs j hj ks (subst (FrameStart ks) size start))
+    let size = column_length rates n j in
+    subst (λ (a : ℕ). Smooth recorded i a T) (column_rate rates n i j hi)
+    (smooth_by_windows (column_of rates n j) T (column_fits n T rates plan j hj)
+    (λ ks start. (window_promise n T rates ok).outputs j hj ks (subst (FrameStart ks) size start))
     recorded made i (rw size hi))

@@ -1,30 +1,30 @@
 -- The record of a port that is served by one plan from a frame's start on.
 use Rattle.std.specs.Prelude.{ℕ, zero, suc, ◌+◌, ◌≡◌, cond, List, [], ◌∷◌, eqb, length}
-use Rattle.multiplexer.specs.Serve.{serveOf}
+use Rattle.multiplexer.specs.Serve.{serve_of}
 use Rattle.multiplexer.specs.Window.{FrameStart}
 use Rattle.multiplexer.specs.declared.Choice.{Choice}
 use Rattle.multiplexer.specs.declared.Choice.TheVariants.{Idle, Flow}
 use Rattle.multiplexer.specs.declared.Multiplexer.{Multiplexer}
-use Rattle.meter.specs.Cover.{idleSlot}
+use Rattle.meter.specs.Cover.{idle_slot}
 
 -- "which flow an output served, one 16-bit number a slot, 65,535 for idle"
 abbrev pub entry_of : Choice → ℕ
-entry_of Idle = idleSlot
+entry_of Idle = idle_slot
 entry_of (Flow f) = f
 
 -- the slot after slot t of a frame of T: "At the end of slot T − 1 the slot number .. return to 0"
-abbrev pub nextSlot : ℕ → ℕ → ℕ
-nextSlot T t = cond (eqb (t + 1) T) 0 (t + 1)
+abbrev pub next_slot : ℕ → ℕ → ℕ
+next_slot T t = cond (eqb (t + 1) T) 0 (t + 1)
 
 -- the record of a port with rates rs, of as many slots as are wanted, from slot t of a frame of T slots on
-unfoldable pub recordFrom : Multiplexer → List ℕ → ℕ → ℕ → ℕ → List ℕ
-recordFrom m rs T t zero = []
-recordFrom m rs T t (suc slots) =
-    let served = serveOf m rs T t in
-    entry_of served.choice ∷ recordFrom served.port rs T (nextSlot T t) slots
+unfoldable pub record_from : Multiplexer → List ℕ → ℕ → ℕ → ℕ → List ℕ
+record_from m rs T t zero = []
+record_from m rs T t (suc slots) =
+    let served = serve_of m rs T t in
+    entry_of served.choice ∷ record_from served.port rs T (next_slot T t) slots
 
 -- "a record made under one plan from a frame start": the plan gives the port the rates rs in T slots
 pub record UnderOnePlan (rs : List ℕ) (T : ℕ) (recorded : List ℕ) : Type 0 where
   pub port : Multiplexer
   pub starts : FrameStart port.served (length rs)
-  pub is : recorded ≡ recordFrom port rs T 0 (length recorded)
+  pub is : recorded ≡ record_from port rs T 0 (length recorded)

@@ -1,8 +1,8 @@
 // How evenly an output serves its flows: the least and the most services of a flow in any l consecutive slots of a record.
 ghost use Rattle.std.specs.Prelude.{◌≡◌, ◌≤◌, length};
-ghost use Rattle.meter.specs.Cover.{mostRecord, serviceIn, coverAt};
-ghost use Rattle.meter.specs.Answer.{wrongLength, coverVerdict, Measures, refusedCover, Covers};
-ghost use Rattle.meter.specs.Search.{orLess, orMore};
+ghost use Rattle.meter.specs.Cover.{most_record, service_in, cover_at};
+ghost use Rattle.meter.specs.Answer.{wrong_length, cover_verdict, Measures, refused_cover, Covers};
+ghost use Rattle.meter.specs.Search.{or_less, or_more};
 
 use refusal::{Refusal, Verdict};
 
@@ -29,13 +29,13 @@ pub struct Measured {
 }
 
 fn wrong_length(slots: usize, l: usize) -> bool
-    ensures { result ≡ wrongLength slots l }
+    ensures { result ≡ wrong_length slots l }
 {
     (slots < l) | (MOST_RECORD < slots)
 }
 
 fn judge(slots: usize, l: usize) -> Verdict
-    ensures { result ≡ coverVerdict slots l }
+    ensures { result ≡ cover_verdict slots l }
 {
     if wrong_length(slots, l) {
         return Verdict::Refused(Refusal::RecordLength);
@@ -44,7 +44,7 @@ fn judge(slots: usize, l: usize) -> Verdict
 }
 
 fn service(flow: u16, entry: u16) -> usize
-    ensures { result ≡ serviceIn flow entry }
+    ensures { result ≡ service_in flow entry }
 {
     if entry == flow { 1 } else { 0 }
 }
@@ -52,7 +52,7 @@ fn service(flow: u16, entry: u16) -> usize
 // The services in the first l slots.
 fn first_services(recorded: &[u16], flow: u16, l: usize) -> usize
     requires { l ≤ length recorded.now }
-    ensures { result ≡ coverAt recorded.now flow l 0 }
+    ensures { result ≡ cover_at recorded.now flow l 0 }
 {
     let mut services = 0;
     for k in 0..l {
@@ -64,7 +64,7 @@ fn first_services(recorded: &[u16], flow: u16, l: usize) -> usize
 impl Stretch {
     // Of equal stretches it keeps the one that came first.
     fn or_less(self, services: usize, place: usize) -> Stretch
-        ensures { result ≡ orLess self services place }
+        ensures { result ≡ or_less self services place }
     {
         if services < self.services {
             return Stretch { services, place };
@@ -73,7 +73,7 @@ impl Stretch {
     }
 
     fn or_more(self, services: usize, place: usize) -> Stretch
-        ensures { result ≡ orMore self services place }
+        ensures { result ≡ or_more self services place }
     {
         if self.services < services {
             return Stretch { services, place };
@@ -84,7 +84,7 @@ impl Stretch {
 
 // From place to place one slot enters the stretch and one leaves it, whatever l is.
 fn measure(recorded: &[u16], flow: u16, l: usize) -> Measured
-    requires { (l ≤ length recorded.now) × (length recorded.now ≤ mostRecord) }
+    requires { (l ≤ length recorded.now) × (length recorded.now ≤ most_record) }
     ensures { Measures recorded.now flow l result }
 {
     let mut services = first_services(recorded, flow, l);
@@ -105,7 +105,7 @@ fn measure(recorded: &[u16], flow: u16, l: usize) -> Measured
 }
 
 fn refused(verdict: Verdict) -> Measured
-    ensures { result ≡ refusedCover verdict }
+    ensures { result ≡ refused_cover verdict }
 {
     let none = Stretch {
         services: 0,

@@ -2,14 +2,14 @@
 use Prim.Native.Nat.{ℕ, suc}
 use mathlib.Core.Path.{◌≡◌, refl}
 use mathlib.Core.List.{List}
-use Rattle.multiplexer.specs.Count.{countsAfter}
-use Rattle.multiplexer.specs.Frame.{countsAt, choiceAt}
+use Rattle.multiplexer.specs.Count.{counts_after}
+use Rattle.multiplexer.specs.Frame.{counts_at, choice_at}
 
 module _ (rs ks : List ℕ) (T : ℕ) where
-  pub counts-first : countsAt rs ks T 0 ≡ ks
-  unfolding countsAt
+  pub counts-first : counts_at rs ks T 0 ≡ ks
+  unfolding counts_at
   counts-first = refl
 
-  pub counts-next : (t : ℕ) → countsAt rs ks T (suc t) ≡ countsAfter (countsAt rs ks T t) (choiceAt rs ks T t)
-  unfolding countsAt
+  pub counts-next : (t : ℕ) → counts_at rs ks T (suc t) ≡ counts_after (counts_at rs ks T t) (choice_at rs ks T t)
+  unfolding counts_at
   counts-next t = refl

@@ -10,53 +10,53 @@ use lib.Dec.{eqb}
 use lib.ListN.{length, get_or, set}
 use lib.Seq.{get_or-set_same, get_or-set_other, ext_get_or}
 use borrow.Author.Tests.{lt-ltb, le-ltb, eq-eqb, ne_eqb}
-use Rattle.plan.specs.Range.{mostPorts}
-use Rattle.plan.proofs.BelowLaws.{lt-or-le, below-or-last}
-use Rattle.multiplexer.specs.Choose.{chooseOf, flowsOf, IsChoice}
-use Rattle.multiplexer.specs.Count.{oneMore, countsAfter}
+use Rattle.plan.specs.Range.{most_ports}
+use Rattle.plan.proofs.BelowLaws.{lt_or_le, below_or_last}
+use Rattle.multiplexer.specs.Choose.{choose_of, flows_of, IsChoice}
+use Rattle.multiplexer.specs.Count.{one_more, counts_after}
 use Rattle.multiplexer.specs.Candidate.{choice_of}
 use Rattle.multiplexer.specs.declared.Choice.{Choice}
 use Rattle.multiplexer.specs.declared.Choice.TheVariants.{Idle, Flow}
 use Rattle.multiplexer.proofs.ChoiceLaws.{choose-is}
-use Rattle.multiplexer.proofs.CountLaws.{count-idle, count-length, count-other}
+use Rattle.multiplexer.proofs.CountLaws.{count_idle, count_length, count_other}
 
 -- the number of a choice
 abbrev pub number_of : Choice → ℕ
-number_of Idle = mostPorts
+number_of Idle = most_ports
 number_of (Flow f) = f
 
-pub flow-choice : (f : ℕ) → f < mostPorts → choice_of f ≡ Flow f
+pub flow_choice : (f : ℕ) → f < most_ports → choice_of f ≡ Flow f
 unfolding choice_of
-flow-choice f l = simp (lt-ltb f mostPorts l)
+flow_choice f l = simp (lt-ltb f most_ports l)
 
-pub idle-choice : (f : ℕ) → mostPorts ≤ f → choice_of f ≡ Idle
+pub idle_choice : (f : ℕ) → most_ports ≤ f → choice_of f ≡ Idle
 unfolding choice_of
-idle-choice f l = simp (le-ltb f mostPorts l)
+idle_choice f l = simp (le-ltb f most_ports l)
 
 -- no choice is lost as a number
-pub number-chosen : (rs ks : List ℕ) (T t : ℕ) → choice_of (number_of (chooseOf rs ks T t)) ≡ chooseOf rs ks T t
-number-chosen rs ks T t = go (chooseOf rs ks T t) (choose-is rs ks T t)
+pub number_chosen : (rs ks : List ℕ) (T t : ℕ) → choice_of (number_of (choose_of rs ks T t)) ≡ choose_of rs ks T t
+number_chosen rs ks T t = go (choose_of rs ks T t) (choose-is rs ks T t)
   where
-    go : (c : Choice) → IsChoice rs ks T t (flowsOf rs) c → choice_of (number_of c) ≡ c
-    go Idle none = idle-choice mostPorts (omega arith)
-    go (Flow f) c = flow-choice f (omega (arith, c.below))
+    go : (c : Choice) → IsChoice rs ks T t (flows_of rs) c → choice_of (number_of c) ≡ c
+    go Idle none = idle_choice most_ports (omega arith)
+    go (Flow f) c = flow_choice f (omega (arith, c.below))
 
 module _ (ks : List ℕ) (flow : ℕ) where
   -- the count of flow g after the service
   abbrev countAt : ℕ → ℕ
-  countAt g = cond (eqb g flow) (oneMore (get_or ks g 0)) (get_or ks g 0)
+  countAt g = cond (eqb g flow) (one_more (get_or ks g 0)) (get_or ks g 0)
 
-  count_at : (g : ℕ) → length ks ≡ mostPorts → g < mostPorts → get_or (countsAfter ks (choice_of flow)) g 0 ≡ countAt g
-  unfolding countsAfter
+  count_at : (g : ℕ) → length ks ≡ most_ports → g < most_ports → get_or (counts_after ks (choice_of flow)) g 0 ≡ countAt g
+  unfolding counts_after
   count_at g full l =
       ⊎_elim
-      (λ (b : flow < mostPorts). rw (flow-choice flow b) (chosen b (ℕ_discrete g flow)))
-      (λ (b : mostPorts ≤ flow). rw (idle-choice flow b, count-idle ks, ne_eqb g flow (λ e. omega arith)) refl)
-      (lt-or-le flow mostPorts)
+      (λ (b : flow < most_ports). rw (flow_choice flow b) (chosen b (ℕ_discrete g flow)))
+      (λ (b : most_ports ≤ flow). rw (idle_choice flow b, count_idle ks, ne_eqb g flow (λ e. omega arith)) refl)
+      (lt_or_le flow most_ports)
     where
-      chosen : flow < mostPorts → Dec (g ≡ flow) → get_or (countsAfter ks (Flow flow)) g 0 ≡ countAt g
+      chosen : flow < most_ports → Dec (g ≡ flow) → get_or (counts_after ks (Flow flow)) g 0 ≡ countAt g
       chosen b (yes e) = rw (eq-eqb g flow e, e) (get_or-set_same ks flow _ 0 (omega (arith, full)))
-      chosen b (no ne) = rw (ne_eqb g flow ne) (count-other ks flow g ne)
+      chosen b (no ne) = rw (ne_eqb g flow ne) (count_other ks flow g ne)
 
   -- the counts of the flows below n are made
   abbrev pub CountedBelow : ℕ → List ℕ → Type 0
@@ -67,9 +67,9 @@ module _ (ks : List ℕ) (flow : ℕ) where
       ⊎_elim
       (λ (b : g < n). get_or-set_other after n g (countAt n) 0 (λ e. omega arith) ∙ made g b)
       (λ (e : g ≡ n). rw e (get_or-set_same after n (countAt n) 0 room))
-      (below-or-last g n l)
+      (below_or_last g n l)
 
-  pub counted-all : (after : List ℕ) → length ks ≡ mostPorts → length after ≡ mostPorts → CountedBelow mostPorts after → after ≡ countsAfter ks (choice_of flow)
+  pub counted-all : (after : List ℕ) → length ks ≡ most_ports → length after ≡ most_ports → CountedBelow most_ports after → after ≡ counts_after ks (choice_of flow)
   counted-all after full len made =
-      ext_get_or 0 after (countsAfter ks (choice_of flow)) (omega (arith, len, full, count-length ks (choice_of flow)))
+      ext_get_or 0 after (counts_after ks (choice_of flow)) (omega (arith, len, full, count_length ks (choice_of flow)))
       (λ g l. made g (omega (arith, len)) ∙ sym (count_at g full (omega (arith, len))))

@@ -4,41 +4,41 @@ use mathlib.Core.Path.{◌≡◌, ap}
 use mathlib.Core.Logic.{⊎_elim}
 use native.Mathlib.Nat.{mul-le-mul, div-le_self, div-lt_iff_lt-mul}
 use native.Mathlib.Omega.{arith}
-use Rattle.plan.proofs.BelowLaws.{lt-or-le}
-use Rattle.multiplexer.specs.Choose.{roundedUp, deadline}
+use Rattle.plan.proofs.BelowLaws.{lt_or_le}
+use Rattle.multiplexer.specs.Choose.{rounded_up, deadline}
 use Rattle.multiplexer.specs.Candidate.{never}
 
-pub quotient-rounded : (x y a : ℕ) → y ≡ x + (a - 1) → y / a ≡ roundedUp x a
-unfolding roundedUp
-quotient-rounded x y a e = ap (λ (z : ℕ). z / a) e
+pub quotient_rounded : (x y a : ℕ) → y ≡ x + (a - 1) → y / a ≡ rounded_up x a
+unfolding rounded_up
+quotient_rounded x y a e = ap (λ (z : ℕ). z / a) e
 
 module _ (x a D : ℕ) (pos : 0 < a) where
-  rounded-lt : x + a ≤ D * a → roundedUp x a < D
-  unfolding roundedUp
+  rounded-lt : x + a ≤ D * a → rounded_up x a < D
+  unfolding rounded_up
   rounded-lt h = (div-lt_iff_lt-mul {k = a} {x = x + (a - 1)} {y = D} pos).1 (omega arith)
 
-  lt-rounded : roundedUp x a < D → x + a ≤ D * a
-  unfolding roundedUp
+  lt-rounded : rounded_up x a < D → x + a ≤ D * a
+  unfolding rounded_up
   lt-rounded h = omega (arith, (div-lt_iff_lt-mul {k = a} {x = x + (a - 1)} {y = D} pos).0 h)
 
 module _ (x a D : ℕ) (pos : 0 < a) where
   -- x / a rounded up is at most D exactly where x is at most D × a
-  pub rounded-le : x ≤ D * a → roundedUp x a ≤ D
+  pub rounded-le : x ≤ D * a → rounded_up x a ≤ D
   rounded-le h = omega (arith, rounded-lt x a (suc D) pos (omega arith))
 
-  pub le-rounded : roundedUp x a ≤ D → x ≤ D * a
+  pub le-rounded : rounded_up x a ≤ D → x ≤ D * a
   le-rounded h = omega (arith, lt-rounded x a (suc D) pos (omega arith))
 
-  pub rounded-above : D * a < x → D < roundedUp x a
-  rounded-above h = ⊎_elim (λ l. l) (λ (l : roundedUp x a ≤ D). absurd (omega (arith, le-rounded l))) (lt-or-le D (roundedUp x a))
+  pub rounded-above : D * a < x → D < rounded_up x a
+  rounded-above h = ⊎_elim (λ l. l) (λ (l : rounded_up x a ≤ D). absurd (omega (arith, le-rounded l))) (lt_or_le D (rounded_up x a))
 
-  pub above-rounded : D < roundedUp x a → D * a < x
-  above-rounded h = ⊎_elim (λ l. l) (λ (l : x ≤ D * a). absurd (omega (arith, rounded-le l))) (lt-or-le (D * a) x)
+  pub above-rounded : D < rounded_up x a → D * a < x
+  above-rounded h = ⊎_elim (λ l. l) (λ (l : x ≤ D * a). absurd (omega (arith, rounded-le l))) (lt_or_le (D * a) x)
 
 -- a product of 16 and 32 bits
 pub product_small : (a b : ℕ) → a < 65536 → b < 4294967296 → a * b ≤ 281470681677825
 product_small a b ha hb = mul-le-mul {n₁ = a} {m₁ = b} {n₂ = 65535} {m₂ = 4294967295} (omega arith) (omega arith)
 
-pub deadline-small : (a k T : ℕ) → a < 65536 → k < 65536 → T < 4294967296 → deadline a k T < never
-unfolding roundedUp
-deadline-small a k T ha hk hT = omega (arith, product_small k T hk hT, div-le_self ((k + 1) * T + (a - 1)) a)
+pub deadline_small : (a k T : ℕ) → a < 65536 → k < 65536 → T < 4294967296 → deadline a k T < never
+unfolding rounded_up
+deadline_small a k T ha hk hT = omega (arith, product_small k T hk hT, div-le_self ((k + 1) * T + (a - 1)) a)

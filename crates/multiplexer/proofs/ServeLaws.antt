@@ -2,8 +2,8 @@
 use Prim.Native.Nat.{ℕ, ◌+◌}
 use mathlib.Core.Path.{◌≡◌, refl}
 use borrow.Author.Tests.{eq-eqb, ne_eqb}
-use Rattle.multiplexer.specs.Count.{count_of, endFrameOf}
-use Rattle.multiplexer.specs.Serve.{servedWith}
+use Rattle.multiplexer.specs.Count.{count_of, end_frame_of}
+use Rattle.multiplexer.specs.Serve.{served_with}
 use Rattle.multiplexer.specs.declared.Choice.{Choice}
 use Rattle.multiplexer.specs.declared.Multiplexer.{Multiplexer}
 use Rattle.multiplexer.specs.declared.Served.{Served}
@@ -11,9 +11,9 @@ use Rattle.multiplexer.specs.declared.Served.{Served}
 module _
     (m : Multiplexer) (n frame slot : ℕ) {c choice : Choice} {counted : Multiplexer} (counts : counted ≡ count_of m c) (chosen : choice ≡ c)
   where
-    pub served-last : {port : Multiplexer} → slot + 1 ≡ frame → port ≡ endFrameOf counted n
-        → ◌≡◌ {A = Served} (record { port = port; choice = choice }) (servedWith m c n frame slot)
+    pub served-last : {port : Multiplexer} → slot + 1 ≡ frame → port ≡ end_frame_of counted n
+        → ◌≡◌ {A = Served} (record { port = port; choice = choice }) (served_with m c n frame slot)
     served-last last ended = rw (eq-eqb (slot + 1) frame last, ended, counts, chosen) refl
 
-    pub served-on : (slot + 1 ≡ frame → ⊥) → ◌≡◌ {A = Served} (record { port = counted; choice = choice }) (servedWith m c n frame slot)
+    pub served-on : (slot + 1 ≡ frame → ⊥) → ◌≡◌ {A = Served} (record { port = counted; choice = choice }) (served_with m c n frame slot)
     served-on more = rw (ne_eqb (slot + 1) frame more, counts, chosen) refl

@@ -7,27 +7,27 @@ use native.Mathlib.Omega.{arith}
 use lib.Dec.{leb, eqb}
 use lib.ListN.{get_or}
 use borrow.Author.Tests.{leb-true, eqb-true, lt-leb, le-leb, eq-eqb, ne_eqb}
-use Rattle.plan.proofs.BelowLaws.{and-true, all-holds, all-intro}
-use Rattle.multiplexer.specs.Valid.{countValid, portValid}
+use Rattle.plan.proofs.BelowLaws.{and_true, all_holds, all_intro}
+use Rattle.multiplexer.specs.Valid.{count_valid, port_valid}
 
 abbrev pub CountWithin : ℕ → ℕ → ℕ → Type 0
 CountWithin slot rate k = (k ≤ rate) × (slot ≡ 0 → k ≡ 0)
 
-pub count-valid : (slot rate k : ℕ) → countValid slot rate k ≡ true → CountWithin slot rate k
-count-valid slot rate k e =
-    let both = and-true (leb k rate) (not (eqb slot 0) || eqb k 0) e in
+pub count_valid_lem : (slot rate k : ℕ) → count_valid slot rate k ≡ true → CountWithin slot rate k
+count_valid_lem slot rate k e =
+    let both = and_true (leb k rate) (not (eqb slot 0) || eqb k 0) e in
     (leb-true k rate both.0, λ z. eqb-true k 0 (simp (eq-eqb slot 0 z) at both.1))
 
-pub count-is-valid : (slot rate k : ℕ) → CountWithin slot rate k → countValid slot rate k ≡ true
-count-is-valid slot rate k h = go (eqb slot 0) refl
+pub count_is_valid : (slot rate k : ℕ) → CountWithin slot rate k → count_valid slot rate k ≡ true
+count_is_valid slot rate k h = go (eqb slot 0) refl
   where
-    go : (b : Bool) → eqb slot 0 ≡ b → countValid slot rate k ≡ true
+    go : (b : Bool) → eqb slot 0 ≡ b → count_valid slot rate k ≡ true
     go true z = simp (le-leb k rate h.0, z, eq-eqb k 0 (h.1 (eqb-true slot 0 z)))
     go false z = simp (le-leb k rate h.0, z)
 
 -- the rule as one comparison
-pub one-comparison : (slot rate k : ℕ) → leb k (cond (eqb slot 0) 0 rate) ≡ countValid slot rate k
-one-comparison slot rate k = go (eqb slot 0) k refl
+pub one_comparison : (slot rate k : ℕ) → leb k (cond (eqb slot 0) 0 rate) ≡ count_valid slot rate k
+one_comparison slot rate k = go (eqb slot 0) k refl
   where
     and-pass : (b : Bool) → b ≡ (b && true)
     and-pass true = refl
@@ -37,18 +37,18 @@ one-comparison slot rate k = go (eqb slot 0) k refl
     and-fail true = refl
     and-fail false = refl
 
-    go : (b : Bool) (k : ℕ) → eqb slot 0 ≡ b → leb k (cond (eqb slot 0) 0 rate) ≡ countValid slot rate k
+    go : (b : Bool) (k : ℕ) → eqb slot 0 ≡ b → leb k (cond (eqb slot 0) 0 rate) ≡ count_valid slot rate k
     go true zero z = simp (z, le-leb 0 rate (omega arith))
     go true (suc k) z = simp (z, lt-leb (suc k) 0 (omega arith), ne_eqb (suc k) 0 (λ e. omega arith)) (and-fail (leb (suc k) rate))
     go false k z = simp z (and-pass (leb k rate))
 
 module _ (rates served : List ℕ) (n start along slot : ℕ) where
-  pub port-valid : portValid rates served n start along slot ≡ true → (f : ℕ) → f < n
+  pub port-valid : port_valid rates served n start along slot ≡ true → (f : ℕ) → f < n
       → CountWithin slot (get_or rates (start + f * along) 0) (get_or served f 0)
-  unfolding portValid
-  port-valid e f l = count-valid slot _ _ (all-holds _ n e f l)
+  unfolding port_valid
+  port-valid e f l = count_valid_lem slot _ _ (all_holds _ n e f l)
 
   pub port-is-valid : ((f : ℕ) → f < n → CountWithin slot (get_or rates (start + f * along) 0) (get_or served f 0))
-      → portValid rates served n start along slot ≡ true
-  unfolding portValid
-  port-is-valid h = all-intro _ n (λ f l. count-is-valid slot _ _ (h f l))
+      → port_valid rates served n start along slot ≡ true
+  unfolding port_valid
+  port-is-valid h = all_intro _ n (λ f l. count_is_valid slot _ _ (h f l))

@@ -1,6 +1,6 @@
 -- For the code, which goes through the flows and keeps the number of the choice so far with its rank.
 use Rattle.std.specs.Prelude.{ℕ, ◌+◌, ◌-◌, ◌*◌, ◌<◌, ◌≤◌, ◌≡◌, cond, ltb}
-use Rattle.plan.specs.Range.{mostPorts}
+use Rattle.plan.specs.Range.{most_ports}
 use Rattle.multiplexer.specs.Choose.{eligible, deadline}
 use Rattle.multiplexer.specs.declared.Candidate.{Candidate}
 use Rattle.multiplexer.specs.declared.Choice.{Choice}
@@ -11,25 +11,25 @@ abbrev pub never : ℕ
 never = 281474976710655
 
 -- 2 ^ 16 − 1: the rate of `Idle`, since no flow has a larger one
-abbrev pub mostRate : ℕ
-mostRate = 65535
+abbrev pub most_rate : ℕ
+most_rate = 65535
 
 -- Deadline d and rate a as one number: the deadline its upper 48 bits, and what a lacks of the highest rate its lower
 -- 16. Of two flows the one with the smaller rank goes before the other (proofs/RankLaws.antt).
 abbrev pub rank_of : ℕ → ℕ → ℕ
-rank_of d a = d * 65536 + (mostRate - a)
+rank_of d a = d * 65536 + (most_rate - a)
 
 -- The deadline r of a flow with rate a and count k, if it is eligible; it is not mistaken for none, and the rate is not
 -- above the highest.
 pub record Soonest (a k T t r : ℕ) : Type 0 where
   pub is : r ≡ cond (eligible a k T t) (deadline a k T) never
-  pub told-apart : deadline a k T < never
-  pub fits : a ≤ mostRate
+  pub told_apart : deadline a k T < never
+  pub fits : a ≤ most_rate
 
 -- the candidate with flow f, of deadline d and rate a, to choose from too
-unfoldable pub orFlow : Candidate → ℕ → ℕ → ℕ → Candidate
-orFlow c f d a = cond (ltb (rank_of d a) c.rank) (record { flow = f; rank = rank_of d a }) c
+unfoldable pub or_flow : Candidate → ℕ → ℕ → ℕ → Candidate
+or_flow c f d a = cond (ltb (rank_of d a) c.rank) (record { flow = f; rank = rank_of d a }) c
 
 -- the choice that a number stands for: a flow's its `Flow`, and one past all flows `Idle`
 unfoldable pub choice_of : ℕ → Choice
-choice_of f = cond (ltb f mostPorts) (Flow f) Idle
+choice_of f = cond (ltb f most_ports) (Flow f) Idle

@@ -3,9 +3,9 @@ use Rattle.std.specs.Prelude.{ℕ, ◌+◌, ◌*◌, Bool, not, ◌&&◌, ◌||�
 use Rattle.plan.specs.Below.{all_below}
 
 -- a service count k of a flow with this rate
-abbrev pub countValid : ℕ → ℕ → ℕ → Bool
-countValid slot rate k = leb k rate && (not (eqb slot 0) || eqb k 0)
+abbrev pub count_valid : ℕ → ℕ → ℕ → Bool
+count_valid slot rate k = leb k rate && (not (eqb slot 0) || eqb k 0)
 
 -- The counts of a port's n flows. The count of flow f is judged by the rate at place start + f × along.
-unfoldable pub portValid : List ℕ → List ℕ → ℕ → ℕ → ℕ → ℕ → Bool
-portValid rates served n start along slot = all_below (λ f. countValid slot (get_or rates (start + f * along) 0) (get_or served f 0)) n
+unfoldable pub port_valid : List ℕ → List ℕ → ℕ → ℕ → ℕ → ℕ → Bool
+port_valid rates served n start along slot = all_below (λ f. count_valid slot (get_or rates (start + f * along) 0) (get_or served f 0)) n

@@ -1,11 +1,11 @@
 // One port's multiplexer: which flow a slot goes to, and how often each flow was served in this frame.
 ghost use Rattle.std.specs.Prelude.{◌≡◌, cond, ◌+◌, ◌*◌, ◌<◌, ◌≤◌, min, eqb};
-ghost use Rattle.plan.specs.Range.{mostPorts};
-ghost use Rattle.multiplexer.specs.Choose.{roundedUp, chooseOf};
-ghost use Rattle.multiplexer.specs.Count.{oneMore, count_of, endFrameOf};
-ghost use Rattle.multiplexer.specs.Candidate.{never, rank_of, Soonest, orFlow, choice_of};
-ghost use Rattle.multiplexer.specs.Deadlines.{tableFrame, TableRule, ReadIn};
-ghost use Rattle.multiplexer.specs.Serve.{servedWith, serveOf};
+ghost use Rattle.plan.specs.Range.{most_ports};
+ghost use Rattle.multiplexer.specs.Choose.{rounded_up, choose_of};
+ghost use Rattle.multiplexer.specs.Count.{one_more, count_of, end_frame_of};
+ghost use Rattle.multiplexer.specs.Candidate.{never, rank_of, Soonest, or_flow, choice_of};
+ghost use Rattle.multiplexer.specs.Deadlines.{table_frame, TableRule, ReadIn};
+ghost use Rattle.multiplexer.specs.Serve.{served_with, serve_of};
 
 use crate::deadlines::deadline_table;
 use plan::range::MOST_PORTS;
@@ -62,7 +62,7 @@ struct Candidate {
 
 // How many of n rates count.
 fn flows(n: usize) -> usize
-    ensures { result ≡ min n mostPorts }
+    ensures { result ≡ min n most_ports }
 {
     if n < MOST_PORTS { n } else { MOST_PORTS }
 }
@@ -97,8 +97,8 @@ fn soonest_divided(rate: u16, served: u16, frame: u32, slot: u32) -> u64
 
 // The deadline of service number `service` of a flow with this rate, out of the table.
 fn read_deadline(table: &[u8], rate: u16, service: u16) -> u8
-    requires { TableRule table.now × (1 ≤ service) × (service ≤ rate) × (rate ≤ tableFrame) }
-    ensures { result ≡ roundedUp (service * tableFrame) rate }
+    requires { TableRule table.now × (1 ≤ service) × (service ≤ rate) × (rate ≤ table_frame) }
+    ensures { result ≡ rounded_up (service * table_frame) rate }
 {
     let a = rate as usize;
     // the table has those of all smaller rates before it
@@ -137,7 +137,7 @@ impl Candidate {
     // The choice with one flow more to choose from; of equal ranks it keeps the lower number.
     fn or_flow(self, flow: u16, deadline: u64, rate: u16) -> Candidate
         requires { deadline ≤ never }
-        ensures { result ≡ orFlow self flow deadline rate }
+        ensures { result ≡ or_flow self flow deadline rate }
     {
         let rank = rank(deadline, rate);
         if self.rank <= rank {
@@ -159,7 +159,7 @@ fn choice_of(flow: u16) -> Choice
 
 // The count of flow g after a slot that went to `flow`. A count of 65,535 stays.
 fn one_more(count: u16, g: u16, flow: u16) -> u16
-    ensures { result ≡ cond (eqb g flow) (oneMore count) count }
+    ensures { result ≡ cond (eqb g flow) (one_more count) count }
 {
     if g != flow {
         return count;
@@ -174,7 +174,7 @@ impl Multiplexer {
     // The number of the flow that `choose` chooses, or NO_FLOW, with the table of deadlines lent.
     fn best(self, rates: &[u16], frame: u32, slot: u32, table: &[u8]) -> u16
         requires { ReadIn frame table.now }
-        ensures { choice_of result ≡ chooseOf rates.now self.served frame slot }
+        ensures { choice_of result ≡ choose_of rates.now self.served frame slot }
     {
         let served = self.served;
         let n = flows(rates.len());
@@ -192,7 +192,7 @@ impl Multiplexer {
 
     // The same without a table, which is made where the frame has one.
     fn chosen(self, rates: &[u16], frame: u32, slot: u32) -> u16
-        ensures { choice_of result ≡ chooseOf rates.now self.served frame slot }
+        ensures { choice_of result ≡ choose_of rates.now self.served frame slot }
     {
         if frame == TABLE_FRAME {
             let table = deadline_table();
@@ -204,7 +204,7 @@ impl Multiplexer {
     // The eligible flow with the smallest deadline, of equals the one with the largest rate, of equals the lowest. Only the
     // first 16 rates count.
     pub fn choose(self, rates: &[u16], frame: u32, slot: u32) -> Choice
-        ensures { result ≡ chooseOf rates.now self.served frame slot }
+        ensures { result ≡ choose_of rates.now self.served frame slot }
     {
         choice_of(self.chosen(rates, frame, slot))
     }
@@ -237,7 +237,7 @@ impl Multiplexer {
 
     // The end of a frame of n flows: their counts return to 0, and those of other numbers stay.
     pub fn end_frame(self, n: usize) -> Multiplexer
-        ensures { result ≡ endFrameOf self n }
+        ensures { result ≡ end_frame_of self n }
     {
         let mut served = self.served;
         for f in 0..flows(n) {
@@ -249,7 +249,7 @@ impl Multiplexer {
     // The port after a slot that went to `flow`: the service is counted and, in the last slot of a frame of n flows, the counts
     // go back to 0.
     fn after(self, flow: u16, n: usize, frame: u32, slot: u32) -> Served
-        ensures { result ≡ servedWith self (choice_of flow) n frame slot }
+        ensures { result ≡ served_with self (choice_of flow) n frame slot }
     {
         // counted before the choice is made of it, so that no jump depends on whether the port idles
         let counted = self.counted(flow);
@@ -268,7 +268,7 @@ impl Multiplexer {
 
     // One slot of the port: it chooses, counts the service and, in the last slot of a frame, goes back to 0.
     pub fn serve(self, rates: &[u16], frame: u32, slot: u32) -> Served
-        ensures { result ≡ serveOf self rates.now frame slot }
+        ensures { result ≡ serve_of self rates.now frame slot }
     {
         self.after(self.chosen(rates, frame, slot), rates.len(), frame, slot)
     }
@@ -276,7 +276,7 @@ impl Multiplexer {
     // The same with the table of deadlines lent, which the ports of a side share.
     pub fn serve_with(self, rates: &[u16], frame: u32, slot: u32, table: &[u8]) -> Served
         requires { TableRule table.now }
-        ensures { result ≡ serveOf self rates.now frame slot }
+        ensures { result ≡ serve_of self rates.now frame slot }
     {
         self.after(
             self.best(rates, frame, slot, table),

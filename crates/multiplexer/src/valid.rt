@@ -1,7 +1,7 @@
 // Number 12's rule for service counts.
 ghost use Rattle.std.specs.Prelude.{◌≡◌, cond, ◌*◌, ◌<◌, eqb};
 ghost use Rattle.plan.specs.Lines.{LinesIn};
-ghost use Rattle.multiplexer.specs.Valid.{countValid, portValid};
+ghost use Rattle.multiplexer.specs.Valid.{count_valid, port_valid};
 
 use crate::Multiplexer;
 
@@ -16,7 +16,7 @@ fn highest(slot: u32, rate: u16) -> u16
 }
 
 fn count_valid(slot: u32, rate: u16, count: u16) -> bool
-    ensures { result ≡ countValid slot rate count }
+    ensures { result ≡ count_valid slot rate count }
 {
     count <= highest(slot, rate)
 }
@@ -34,7 +34,7 @@ impl Multiplexer {
         slot: u32,
     ) -> bool
         requires { LinesIn rates.now n across along × (p < n) }
-        ensures { result ≡ portValid rates.now self.served n (p * across) along slot }
+        ensures { result ≡ port_valid rates.now self.served n (p * across) along slot }
     {
         let served = self.served;
         let mut valid = true;

@@ -6,20 +6,20 @@ use mathlib.Core.List.{[], ◌∷◌}
 use native.Mathlib.Omega.{arith}
 use lib.ListN.{length, get_or, length-append, get_or-append}
 use lib.Seq.{get_or_at}
-use Rattle.plan.proofs.BelowLaws.{below-or-last}
-use Rattle.plan.specs.Below.{listBelow}
+use Rattle.plan.proofs.BelowLaws.{below_or_last}
+use Rattle.plan.specs.Below.{list_below}
 
 module _ {A : Type 0} (x : ℕ → A) where
-  pub length-list : (n : ℕ) → length (listBelow x n) ≡ n
-  unfolding listBelow
+  pub length-list : (n : ℕ) → length (list_below x n) ≡ n
+  unfolding list_below
   length-list zero = refl
-  length-list (suc n) = omega (arith, length-append (listBelow x n) (x n ∷ []), length-list n)
+  length-list (suc n) = omega (arith, length-append (list_below x n) (x n ∷ []), length-list n)
 
-  pub getD-list : (n k : ℕ) (d : A) → k < n → get_or (listBelow x n) k d ≡ x k
-  unfolding listBelow
+  pub getD-list : (n k : ℕ) (d : A) → k < n → get_or (list_below x n) k d ≡ x k
+  unfolding list_below
   getD-list zero k d l = absurd (omega arith)
   getD-list (suc n) k d l =
       ⊎_elim
-      (λ (b : k < n). get_or-append (listBelow x n) (x n ∷ []) d k (omega (arith, length-list n)) ∙ getD-list n k d b)
-      (λ (e : k ≡ n). get_or_at (listBelow x n) (x n) [] d k (length-list n ∙ sym e) ∙ ap x (sym e))
-      (below-or-last k n l)
+      (λ (b : k < n). get_or-append (list_below x n) (x n ∷ []) d k (omega (arith, length-list n)) ∙ getD-list n k d b)
+      (λ (e : k ≡ n). get_or_at (list_below x n) (x n) [] d k (length-list n ∙ sym e) ∙ ap x (sym e))
+      (below_or_last k n l)

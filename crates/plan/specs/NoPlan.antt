@@ -1,7 +1,7 @@
 -- "Where an operation was handed no state or plan and would answer one, the refusal's is all 0".
 use Rattle.std.specs.Prelude.{replicate}
-use Rattle.plan.specs.Range.{mostFlows}
+use Rattle.plan.specs.Range.{most_flows}
 use Rattle.plan.specs.declared.Plan.{Plan}
 
-abbrev pub noPlan : Plan
-noPlan = record { ports = 0; frame = 0; rates = replicate mostFlows 0 }
+abbrev pub no_plan : Plan
+no_plan = record { ports = 0; frame = 0; rates = replicate most_flows 0 }

@@ -2,19 +2,19 @@
 use Rattle.std.specs.Prelude.{ℕ, ◌*◌, Bool, ◌&&◌, leb}
 
 -- "N is 1 to" this
-abbrev pub mostPorts : ℕ
-mostPorts = 16
+abbrev pub most_ports : ℕ
+most_ports = 16
 
 -- the flows between that many inputs and outputs
-abbrev pub mostFlows : ℕ
-mostFlows = mostPorts * mostPorts
+abbrev pub most_flows : ℕ
+most_flows = most_ports * most_ports
 
 -- "The frame length T is 1 to" so many "slots"; request L8 says how many
-abbrev pub mostSlots : ℕ
-mostSlots = 1024
+abbrev pub most_slots : ℕ
+most_slots = 1024
 
-unfoldable pub portsInRange : ℕ → Bool
-portsInRange n = leb 1 n && leb n mostPorts
+unfoldable pub ports_in_range : ℕ → Bool
+ports_in_range n = leb 1 n && leb n most_ports
 
-unfoldable pub frameInRange : ℕ → Bool
-frameInRange t = leb 1 t && leb t mostSlots
+unfoldable pub frame_in_range : ℕ → Bool
+frame_in_range t = leb 1 t && leb t most_slots

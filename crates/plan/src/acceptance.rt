@@ -1,6 +1,6 @@
 // Plan acceptance.
 ghost use Rattle.std.specs.Prelude.{◌≡◌};
-ghost use Rattle.plan.specs.Accept.{acceptOf};
+ghost use Rattle.plan.specs.Accept.{accept_of};
 
 use crate::lines::lines_fit;
 use crate::range::{frame_in_range, is_square, ports_in_range};
@@ -8,7 +8,7 @@ use refusal::{Refusal, Verdict};
 
 // Whether a plan is accepted: N, T, the length, then all rows, then all columns.
 pub fn accept(n: usize, t: u32, rates: &[u16]) -> Verdict
-    ensures { result ≡ acceptOf n t rates.now }
+    ensures { result ≡ accept_of n t rates.now }
 {
     if !ports_in_range(n) {
         return Verdict::Refused(Refusal::PortsOutOfRange);

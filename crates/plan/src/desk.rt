@@ -1,6 +1,6 @@
 // The desk view.
 ghost use Rattle.std.specs.Prelude.{◌≡◌, ◌*◌, ◌<◌, length};
-ghost use Rattle.plan.specs.Desk.{row_of, has_row, deskOf};
+ghost use Rattle.plan.specs.Desk.{row_of, has_row, desk_of};
 
 use crate::range::{is_square, ports_in_range};
 
@@ -37,7 +37,7 @@ pub fn desk_view<'a>(
     i: usize,
     takeover: bool,
 ) -> &'a [u16]
-    ensures { result.now ≡ deskOf running.now waiting.now n i takeover }
+    ensures { result.now ≡ desk_of running.now waiting.now n i takeover }
 {
     if !has_row(n, i, running.len(), waiting.len()) {
         return &running[0..0];

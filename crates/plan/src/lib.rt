@@ -1,6 +1,6 @@
 // Rate plans: which ones are accepted, and the row of one input.
 ghost use Rattle.std.specs.Prelude.{◌≡◌};
-ghost use Rattle.plan.specs.NoPlan.{noPlan};
+ghost use Rattle.plan.specs.NoPlan.{no_plan};
 
 use crate::range::MOST_FLOWS;
 
@@ -21,7 +21,7 @@ pub struct Plan {
 
 // What stands in a refusal for a plan: all numbers are 0.
 pub fn no_plan() -> Plan
-    ensures { result ≡ noPlan }
+    ensures { result ≡ no_plan }
 {
     let rates = [0u16; MOST_FLOWS];
     Plan {

@@ -1,6 +1,6 @@
 // The limits of N and T, which only this file and specs/Range.antt have, and the length of a list for N ports.
 ghost use Rattle.std.specs.Prelude.{◌≡◌, ◌*◌, eqb};
-ghost use Rattle.plan.specs.Range.{portsInRange, frameInRange};
+ghost use Rattle.plan.specs.Range.{ports_in_range, frame_in_range};
 
 pub const MOST_PORTS: usize = 16;
 
@@ -11,7 +11,7 @@ pub const MOST_FLOWS: usize = MOST_PORTS * MOST_PORTS;
 pub const MOST_SLOTS: u32 = 1024;
 
 pub fn ports_in_range(n: usize) -> bool
-    ensures { result ≡ portsInRange n }
+    ensures { result ≡ ports_in_range n }
 {
     if n < 1 {
         return false;
@@ -20,7 +20,7 @@ pub fn ports_in_range(n: usize) -> bool
 }
 
 pub fn frame_in_range(t: u32) -> bool
-    ensures { result ≡ frameInRange t }
+    ensures { result ≡ frame_in_range t }
 {
     if t < 1 {
         return false;

@@ -10,68 +10,68 @@ use lib.Dec.{eqb}
 use lib.ListN.{length, take}
 use lib.Seq.{get_or-take, length-take-le, take_all}
 use borrow.Author.Tests.{le-ltb, ne_eqb, not-false}
-use Rattle.refusal.specs.Chain.{refuseIf, ifAccepted}
+use Rattle.refusal.specs.Chain.{refuse_if, if_accepted}
 use Rattle.refusal.specs.declared.Refusal.{Refusal}
 use Rattle.refusal.specs.declared.Refusal.TheVariants.{PortsOutOfRange, FrameOutOfRange, NotPlanFile, FileLength}
 use Rattle.refusal.specs.declared.Verdict.{Verdict}
 use Rattle.refusal.specs.declared.Verdict.TheVariants.{Refused}
-use Rattle.refusal.proofs.ChainLaws.{refuse-ext}
+use Rattle.refusal.proofs.ChainLaws.{refuse_ext}
 use Rattle.plan.specs.declared.Plan.{Plan}
-use Rattle.plan.specs.NoPlan.{noPlan}
-use Rattle.plan.specs.Range.{portsInRange, frameInRange}
-use Rattle.plan.proofs.BelowLaws.{lt-or-le}
-use Rattle.plan.proofs.LineLaws.{square-small}
-use Rattle.plan.proofs.RangeLaws.{ports-range}
+use Rattle.plan.specs.NoPlan.{no_plan}
+use Rattle.plan.specs.Range.{ports_in_range, frame_in_range}
+use Rattle.plan.proofs.BelowLaws.{lt_or_le}
+use Rattle.plan.proofs.LineLaws.{square_small}
+use Rattle.plan.proofs.RangeLaws.{ports_range}
 use Rattle.planfile.specs.declared.Reading.{Reading}
-use Rattle.planfile.specs.Layout.{byte_at, isMarked, versionIn, portsIn, frameIn, fileLength, longestFile}
-use Rattle.planfile.specs.Read.{verdictOf, read_of}
+use Rattle.planfile.specs.Layout.{byte_at, is_marked, version_in, ports_in, frame_in, file_length, longest_file}
+use Rattle.planfile.specs.Read.{verdict_of, read_of}
 
 -- the verdict on a file that is too long, by what its head holds: whether mark and version are right, N and T
-abbrev tooLong : Bool → ℕ → ℕ → Verdict
-tooLong marked n t =
-    refuseIf (not marked) NotPlanFile
-    (refuseIf (not (portsInRange n)) PortsOutOfRange
-    (refuseIf (not (frameInRange t)) FrameOutOfRange
+abbrev too_long : Bool → ℕ → ℕ → Verdict
+too_long marked n t =
+    refuse_if (not marked) NotPlanFile
+    (refuse_if (not (ports_in_range n)) PortsOutOfRange
+    (refuse_if (not (frame_in_range t)) FrameOutOfRange
     (Refused FileLength)))
 
-abbrev markedIn : List ℕ → Bool
-markedIn file = isMarked file && eqb (versionIn file) 1
+abbrev marked_in : List ℕ → Bool
+marked_in file = is_marked file && eqb (version_in file) 1
 
-abbrev tooLongIn : List ℕ → Verdict
-tooLongIn file = tooLong (markedIn file) (portsIn file) (frameIn file)
+abbrev too_long_in : List ℕ → Verdict
+too_long_in file = too_long (marked_in file) (ports_in file) (frame_in file)
 
-refuse-kept : (b : Bool) (r : Refusal) (v : Verdict) (p q : Plan) → ifAccepted v p q ≡ q → ifAccepted (refuseIf b r v) p q ≡ q
-refuse-kept true r v p q h = refl
-refuse-kept false r v p q h = h
+refuse_kept : (b : Bool) (r : Refusal) (v : Verdict) (p q : Plan) → if_accepted v p q ≡ q → if_accepted (refuse_if b r v) p q ≡ q
+refuse_kept true r v p q h = refl
+refuse_kept false r v p q h = h
 
-no-plan-file : (file : List ℕ) → longestFile < length file → portsInRange (portsIn file) ≡ true → eqb (length file) (fileLength (portsIn file)) ≡ false
-no-plan-file file h e = ne_eqb (length file) _ (λ same. omega (arith, same, square-small (portsIn file) (ports-range (portsIn file) e).1))
+no_plan_file : (file : List ℕ) → longest_file < length file → ports_in_range (ports_in file) ≡ true → eqb (length file) (file_length (ports_in file)) ≡ false
+no_plan_file file h e = ne_eqb (length file) _ (λ same. omega (arith, same, square_small (ports_in file) (ports_range (ports_in file) e).1))
 
-long-verdict : (file : List ℕ) → longestFile < length file → verdictOf file ≡ tooLongIn file
-unfolding verdictOf
-long-verdict file h =
+long_verdict : (file : List ℕ) → longest_file < length file → verdict_of file ≡ too_long_in file
+unfolding verdict_of
+long_verdict file h =
     simp (le-ltb (length file) 8 (omega arith))
-    (refuse-ext (not (markedIn file)) NotPlanFile λ _.
-    refuse-ext (not (portsInRange (portsIn file))) PortsOutOfRange λ hn.
-    refuse-ext (not (frameInRange (frameIn file))) FrameOutOfRange λ _.
-    simp (no-plan-file file h (not-false _ hn)))
+    (refuse_ext (not (marked_in file)) NotPlanFile λ _.
+    refuse_ext (not (ports_in_range (ports_in file))) PortsOutOfRange λ hn.
+    refuse_ext (not (frame_in_range (frame_in file))) FrameOutOfRange λ _.
+    simp (no_plan_file file h (not-false _ hn)))
 
-abbrev refusedBy : Verdict → Reading
-refusedBy v = record { verdict = v; plan = noPlan }
+abbrev refused_by : Verdict → Reading
+refused_by v = record { verdict = v; plan = no_plan }
 
-long-read : (file : List ℕ) → longestFile < length file → read_of file ≡ refusedBy (tooLongIn file)
+long_read : (file : List ℕ) → longest_file < length file → read_of file ≡ refused_by (too_long_in file)
 unfolding read_of
-long-read file h =
-    rw (long-verdict file h)
-    (ap (λ (p : Plan). record { verdict = tooLongIn file; plan = p })
-    (refuse-kept (not (markedIn file)) NotPlanFile _ _ _
-    (refuse-kept (not (portsInRange (portsIn file))) PortsOutOfRange _ _ _
-    (refuse-kept (not (frameInRange (frameIn file))) FrameOutOfRange _ _ _ refl))))
+long_read file h =
+    rw (long_verdict file h)
+    (ap (λ (p : Plan). record { verdict = too_long_in file; plan = p })
+    (refuse_kept (not (marked_in file)) NotPlanFile _ _ _
+    (refuse_kept (not (ports_in_range (ports_in file))) PortsOutOfRange _ _ _
+    (refuse_kept (not (frame_in_range (frame_in file))) FrameOutOfRange _ _ _ refl))))
 
-module _ (m : ℕ) (file : List ℕ) (enough : longestFile < m) where
+module _ (m : ℕ) (file : List ℕ) (enough : longest_file < m) where
   -- the head is within the first m bytes
-  head-kept : tooLongIn (take m file) ≡ tooLongIn file
-  unfolding isMarked
+  head-kept : too_long_in (take m file) ≡ too_long_in file
+  unfolding is_marked
   head-kept =
       let at : (p : ℕ) → p < 8 → byte_at (take m file) p ≡ byte_at file p = λ p h. get_or-take m file p 0 (omega arith) in
       simp (
@@ -85,12 +85,12 @@ module _ (m : ℕ) (file : List ℕ) (enough : longestFile < m) where
         at 7 (omega arith),
       )
 
-  pub read-cut : read_of (take m file) ≡ read_of file
-  read-cut =
+  pub read_cut : read_of (take m file) ≡ read_of file
+  read_cut =
       ⊎_elim
       (λ (h : m < length file).
-      long-read (take m file) (omega (arith, length-take-le m file (omega arith)))
-      ∙ ap refusedBy head-kept
-      ∙ sym (long-read file (omega arith)))
+      long_read (take m file) (omega (arith, length-take-le m file (omega arith)))
+      ∙ ap refused_by head-kept
+      ∙ sym (long_read file (omega arith)))
       (λ (h : length file ≤ m). ap read_of (take_all m file h))
-      (lt-or-le m (length file))
+      (lt_or_le m (length file))

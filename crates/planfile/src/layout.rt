@@ -1,8 +1,8 @@
 // The numbers of a plan file: the mark is in bytes 0 to 2, the version in 3 and 4, N in 5, T in 6 and 7, and the
 // rates follow.
 ghost use Rattle.std.specs.Prelude.{◌&&◌, ◌≡◌, ◌+◌, ◌*◌, ◌<◌, ◌≤◌, eqb, length};
-ghost use Rattle.plan.specs.Range.{mostFlows};
-ghost use Rattle.planfile.specs.Layout.{word_at, isMarked, versionIn, portsIn, frameIn, ratesOf, padded};
+ghost use Rattle.plan.specs.Range.{most_flows};
+ghost use Rattle.planfile.specs.Layout.{word_at, is_marked, version_in, ports_in, frame_in, rates_of, padded};
 
 use plan::range::MOST_FLOWS;
 
@@ -28,7 +28,7 @@ fn word_at(bytes: &[u8], at: usize) -> u16
 // Whether the file begins with the mark and the version.
 pub fn is_plan_file(bytes: &[u8]) -> bool
     requires { 8 ≤ length bytes.now }
-    ensures { result ≡ (isMarked bytes.now && eqb (versionIn bytes.now) 1) }
+    ensures { result ≡ (is_marked bytes.now && eqb (version_in bytes.now) 1) }
 {
     if bytes[0] != b'L' {
         return false;
@@ -44,22 +44,22 @@ pub fn is_plan_file(bytes: &[u8]) -> bool
 
 pub fn ports_in(bytes: &[u8]) -> usize
     requires { 8 ≤ length bytes.now }
-    ensures { result ≡ portsIn bytes.now }
+    ensures { result ≡ ports_in bytes.now }
 {
     wide(bytes[5]) as usize
 }
 
 pub fn frame_in(bytes: &[u8]) -> u32
     requires { 8 ≤ length bytes.now }
-    ensures { result ≡ frameIn bytes.now }
+    ensures { result ≡ frame_in bytes.now }
 {
     word_at(bytes, 6) as u32
 }
 
 // The first `count` rates, and 0 in the places past them.
 pub fn rates_of(bytes: &[u8], count: usize) -> [u16; MOST_FLOWS]
-    requires { (count ≤ mostFlows) × (8 + 2 * count ≤ length bytes.now) }
-    ensures { result ≡ padded (ratesOf bytes.now count) }
+    requires { (count ≤ most_flows) × (8 + 2 * count ≤ length bytes.now) }
+    ensures { result ≡ padded (rates_of bytes.now count) }
 {
     let mut rates = [0u16; MOST_FLOWS];
     for p in 0..count {

@@ -1,9 +1,9 @@
 // The plan file: bytes to an accepted plan, or the refusal; and an accepted plan to bytes (writing).
 ghost use Rattle.std.specs.Prelude.{◌≡◌, ◌+◌, ◌*◌, ◌≤◌, length};
-ghost use Rattle.plan.specs.Range.{mostFlows};
-ghost use Rattle.plan.specs.Accept.{acceptOf};
-ghost use Rattle.plan.specs.NoPlan.{noPlan};
-ghost use Rattle.planfile.specs.Layout.{ratesOf};
+ghost use Rattle.plan.specs.Range.{most_flows};
+ghost use Rattle.plan.specs.Accept.{accept_of};
+ghost use Rattle.plan.specs.NoPlan.{no_plan};
+ghost use Rattle.planfile.specs.Layout.{rates_of};
 ghost use Rattle.planfile.specs.Read.{plan_of, reading_of, read_of};
 ghost use Rattle.refusal.specs.declared.Verdict.TheVariants.{Refused};
 
@@ -27,7 +27,7 @@ pub struct Reading {
 }
 
 fn refused(refusal: Refusal) -> Reading
-    ensures { result ≡ reading_of (Refused refusal) noPlan }
+    ensures { result ≡ reading_of (Refused refusal) no_plan }
 {
     let verdict = Verdict::Refused(refusal);
     let plan = no_plan();
@@ -36,8 +36,8 @@ fn refused(refusal: Refusal) -> Reading
 
 // The reading of a file whose head gave N and T, by its first `count` rates.
 fn read_rates(bytes: &[u8], n: usize, t: u32, count: usize) -> Reading
-    requires { (count ≤ mostFlows) × (8 + 2 * count ≤ length bytes.now) }
-    ensures { result ≡ reading_of (acceptOf n t (ratesOf bytes.now count)) (plan_of n t (ratesOf bytes.now count)) }
+    requires { (count ≤ most_flows) × (8 + 2 * count ≤ length bytes.now) }
+    ensures { result ≡ reading_of (accept_of n t (rates_of bytes.now count)) (plan_of n t (rates_of bytes.now count)) }
 {
     let rates = rates_of(bytes, count);
     match accept(n, t, &rates[0..count]) {

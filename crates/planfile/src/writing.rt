@@ -1,8 +1,8 @@
 // Plans to bytes.
 ghost use Rattle.std.specs.Prelude.{[], ◌≡◌, ◌/◌, ◌%◌, ◌<◌, ◌≤◌, length};
-ghost use Rattle.plan.specs.Range.{mostFlows};
-ghost use Rattle.planfile.specs.Layout.{longestFile, paddedTo};
-ghost use Rattle.planfile.specs.Write.{head_of, fileOf, writingOf, writeOf};
+ghost use Rattle.plan.specs.Range.{most_flows};
+ghost use Rattle.planfile.specs.Layout.{longest_file, padded_to};
+ghost use Rattle.planfile.specs.Write.{head_of, file_of, writing_of, write_of};
 ghost use Rattle.refusal.specs.declared.Verdict.TheVariants.{Refused};
 
 use crate::LONGEST_FILE;
@@ -34,7 +34,7 @@ fn high(word: u16) -> u8
 // The mark, the version, N and T.
 fn head(n: usize, t: u32) -> [u8; LONGEST_FILE]
     requires { (n < 256) × (t < 65536) }
-    ensures { result ≡ paddedTo longestFile (head_of n t) }
+    ensures { result ≡ padded_to longest_file (head_of n t) }
 {
     let frame = t as u16;
     let mut bytes = [0u8; LONGEST_FILE];
@@ -51,8 +51,8 @@ fn head(n: usize, t: u32) -> [u8; LONGEST_FILE]
 
 // The head, and the rates behind it.
 fn file(n: usize, t: u32, rates: &[u16]) -> [u8; LONGEST_FILE]
-    requires { (n < 256) × (t < 65536) × (length rates.now ≤ mostFlows) }
-    ensures { result ≡ paddedTo longestFile (fileOf n t rates.now) }
+    requires { (n < 256) × (t < 65536) × (length rates.now ≤ most_flows) }
+    ensures { result ≡ padded_to longest_file (file_of n t rates.now) }
 {
     let mut bytes = head(n, t);
     for p in 0..rates.len() {
@@ -65,7 +65,7 @@ fn file(n: usize, t: u32, rates: &[u16]) -> [u8; LONGEST_FILE]
 }
 
 pub fn no_file(refusal: Refusal) -> Writing
-    ensures { result ≡ writingOf (Refused refusal) [] }
+    ensures { result ≡ writing_of (Refused refusal) [] }
 {
     let verdict = Verdict::Refused(refusal);
     let bytes = [0u8; LONGEST_FILE];
@@ -78,7 +78,7 @@ pub fn no_file(refusal: Refusal) -> Writing
 
 // The file of a plan, if it is accepted.
 pub fn write(n: usize, t: u32, rates: &[u16]) -> Writing
-    ensures { result ≡ writeOf n t rates.now }
+    ensures { result ≡ write_of n t rates.now }
 {
     match accept(n, t, rates) {
         Verdict::Accepted => {

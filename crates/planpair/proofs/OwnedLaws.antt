@@ -10,21 +10,21 @@ use mir.Val.{Val}
 use denote.Laws.{Is}
 use denote.Struct.Declared.{row}
 use borrow.Kind.Array.{e_int, good_length}
-use Rattle.plan.specs.Range.{mostPorts, mostFlows}
+use Rattle.plan.specs.Range.{most_ports, most_flows}
 use Rattle.plan.specs.declared.Plan.{Plan}
 use Rattle.plan.specs.contracts.Plan.{the_type}
-use Rattle.plan.proofs.LineLaws.{square-small}
-use Rattle.planpair.specs.Rates.{planRates}
+use Rattle.plan.proofs.LineLaws.{square_small}
+use Rattle.planpair.specs.Rates.{plan_rates}
 
 module _ (p : Plan) (vs : List Val) (owned : Is (row the_type) p vs) where
   -- `owned` has a part for each field of the struct, and the rates are the third
-  pub rates-full : length p.rates ≡ mostFlows
+  pub rates-full : length p.rates ≡ most_flows
   rates-full =
       let same : ℕ → ℕ = λ x. x in
-      sym (length-map p.rates same) ∙ good_length (e_int w16) mostFlows (map same p.rates) _ owned.1.1.1.1.0
+      sym (length-map p.rates same) ∙ good_length (e_int w16) most_flows (map same p.rates) _ owned.1.1.1.1.0
 
-  pub rates-cover : p.ports ≤ mostPorts → p.ports * p.ports ≤ length p.rates
-  rates-cover few = omega (arith, rates-full, square-small p.ports few)
+  pub rates-cover : p.ports ≤ most_ports → p.ports * p.ports ≤ length p.rates
+  rates-cover few = omega (arith, rates-full, square_small p.ports few)
 
-  pub rates-square : p.ports ≤ mostPorts → length (planRates p) ≡ p.ports * p.ports
+  pub rates-square : p.ports ≤ most_ports → length (plan_rates p) ≡ p.ports * p.ports
   rates-square few = length-take-le _ p.rates (rates-cover few)

@@ -7,79 +7,79 @@ use native.Mathlib.Numerals.{add-one}
 use native.Mathlib.Omega.{arith}
 use lib.ListN.{length, get_or, set, take, replicate, length-set}
 use lib.Seq.{get_or-set_same, get_or-set_other, get_or-take, length-take-le, ext_get_or}
-use Rattle.plan.specs.Range.{mostFlows}
+use Rattle.plan.specs.Range.{most_flows}
 use Rattle.plan.specs.Accept.{IsPlan}
-use Rattle.plan.proofs.BelowLaws.{below-or-last, lt-or-le}
-use Rattle.plan.proofs.LineLaws.{square-small}
+use Rattle.plan.proofs.BelowLaws.{below_or_last, lt_or_le}
+use Rattle.plan.proofs.LineLaws.{square_small}
 use Rattle.planpair.specs.Rates.{overlaid}
 
-pub overlaid-length : (array list : List ℕ) (count : ℕ) → length (overlaid array list count) ≡ length array
+pub overlaid_length : (array list : List ℕ) (count : ℕ) → length (overlaid array list count) ≡ length array
 unfolding overlaid
-overlaid-length array list zero = refl
-overlaid-length array list (suc k) = length-set (overlaid array list k) k (get_or list k 0) ∙ overlaid-length array list k
+overlaid_length array list zero = refl
+overlaid_length array list (suc k) = length-set (overlaid array list k) k (get_or list k 0) ∙ overlaid_length array list k
 
 -- one place more
-pub overlaid-next : (array list : List ℕ) (k : ℕ) (f : List ℕ) → f ≡ overlaid array list k → set f k (get_or list k 0) ≡ overlaid array list (k + 1)
+pub overlaid_next : (array list : List ℕ) (k : ℕ) (f : List ℕ) → f ≡ overlaid array list k → set f k (get_or list k 0) ≡ overlaid array list (k + 1)
 unfolding overlaid
-overlaid-next array list k f e = rw (add-one, e)
+overlaid_next array list k f e = rw (add-one, e)
 
-pub overlaid-none : (array list : List ℕ) → array ≡ overlaid array list 0
+pub overlaid_none : (array list : List ℕ) → array ≡ overlaid array list 0
 unfolding overlaid
-overlaid-none array list = refl
+overlaid_none array list = refl
 
 -- from count up, the array's number
-overlaid-above : (array list : List ℕ) (count k : ℕ) → count ≤ k → get_or (overlaid array list count) k 0 ≡ get_or array k 0
+overlaid_above : (array list : List ℕ) (count k : ℕ) → count ≤ k → get_or (overlaid array list count) k 0 ≡ get_or array k 0
 unfolding overlaid
-overlaid-above array list zero k h = refl
-overlaid-above array list (suc m) k h = get_or-set_other (overlaid array list m) m k (get_or list m 0) 0 (λ e. omega arith) ∙ overlaid-above array list m k (omega arith)
+overlaid_above array list zero k h = refl
+overlaid_above array list (suc m) k h = get_or-set_other (overlaid array list m) m k (get_or list m 0) 0 (λ e. omega arith) ∙ overlaid_above array list m k (omega arith)
 
 -- below count, the list's number
-overlaid-at : (array list : List ℕ) (count k : ℕ) → k < count → k < length array → get_or (overlaid array list count) k 0 ≡ get_or list k 0
+overlaid_at : (array list : List ℕ) (count k : ℕ) → k < count → k < length array → get_or (overlaid array list count) k 0 ≡ get_or list k 0
 unfolding overlaid
-overlaid-at array list zero k h l = absurd (omega arith)
-overlaid-at array list (suc m) k h l =
+overlaid_at array list zero k h l = absurd (omega arith)
+overlaid_at array list (suc m) k h l =
     ⊎_elim
-    (λ (b : k < m). get_or-set_other (overlaid array list m) m k (get_or list m 0) 0 (λ e. omega arith) ∙ overlaid-at array list m k b l)
-    (λ (e : k ≡ m). rw e (get_or-set_same (overlaid array list m) m (get_or list m 0) 0 (omega (arith, overlaid-length array list m))))
-    (below-or-last k m h)
+    (λ (b : k < m). get_or-set_other (overlaid array list m) m k (get_or list m 0) 0 (λ e. omega arith) ∙ overlaid_at array list m k b l)
+    (λ (e : k ≡ m). rw e (get_or-set_same (overlaid array list m) m (get_or list m 0) 0 (omega (arith, overlaid_length array list m))))
+    (below_or_last k m h)
 
 -- only the numbers below count matter
-overlaid-ext : (array list other : List ℕ) (count : ℕ) → ((k : ℕ) → k < count → get_or list k 0 ≡ get_or other k 0) → overlaid array list count ≡ overlaid array other count
+overlaid_ext : (array list other : List ℕ) (count : ℕ) → ((k : ℕ) → k < count → get_or list k 0 ≡ get_or other k 0) → overlaid array list count ≡ overlaid array other count
 unfolding overlaid
-overlaid-ext array list other zero h = refl
-overlaid-ext array list other (suc k) h = rw (overlaid-ext array list other k (λ m l. h m (omega arith)), h k (omega arith)) refl
+overlaid_ext array list other zero h = refl
+overlaid_ext array list other (suc k) h = rw (overlaid_ext array list other k (λ m l. h m (omega arith)), h k (omega arith)) refl
 
 -- the first numbers of a list are laid over an array as the list is
-pub overlaid-part : (array list : List ℕ) (count : ℕ) → overlaid array (take count list) count ≡ overlaid array list count
-overlaid-part array list count = overlaid-ext array (take count list) list count (λ k l. get_or-take count list k 0 l)
+pub overlaid_part : (array list : List ℕ) (count : ℕ) → overlaid array (take count list) count ≡ overlaid array list count
+overlaid_part array list count = overlaid_ext array (take count list) list count (λ k l. get_or-take count list k 0 l)
 
 -- of two lists laid over an array, the second stands
-pub overlaid-twice : (array first second : List ℕ) (count : ℕ) → overlaid (overlaid array first count) second count ≡ overlaid array second count
-overlaid-twice array first second count =
-    let under = overlaid-length array first count in
-    let size = overlaid-length (overlaid array first count) second count ∙ under in
-    ext_get_or 0 (overlaid (overlaid array first count) second count) (overlaid array second count) (size ∙ sym (overlaid-length array second count))
+pub overlaid_twice : (array first second : List ℕ) (count : ℕ) → overlaid (overlaid array first count) second count ≡ overlaid array second count
+overlaid_twice array first second count =
+    let under = overlaid_length array first count in
+    let size = overlaid_length (overlaid array first count) second count ∙ under in
+    ext_get_or 0 (overlaid (overlaid array first count) second count) (overlaid array second count) (size ∙ sym (overlaid_length array second count))
     (λ k l. ⊎_elim
-    (λ (b : k < count). overlaid-at (overlaid array first count) second count k b (omega arith) ∙ sym (overlaid-at array second count k b (omega arith)))
-    (λ (a : count ≤ k). overlaid-above (overlaid array first count) second count k a ∙ overlaid-above array first count k a ∙ sym (overlaid-above array second count k a))
-    (lt-or-le k count))
+    (λ (b : k < count). overlaid_at (overlaid array first count) second count k b (omega arith) ∙ sym (overlaid_at array second count k b (omega arith)))
+    (λ (a : count ≤ k). overlaid_above (overlaid array first count) second count k a ∙ overlaid_above array first count k a ∙ sym (overlaid_above array second count k a))
+    (lt_or_le k count))
 
-zero-at : (m k : ℕ) → ◌≡◌ {A = ℕ} (get_or (replicate m 0) k 0) 0
-zero-at zero k = refl
-zero-at (suc m) zero = refl
-zero-at (suc m) (suc k) = zero-at m k
+zero_at : (m k : ℕ) → ◌≡◌ {A = ℕ} (get_or (replicate m 0) k 0) 0
+zero_at zero k = refl
+zero_at (suc m) zero = refl
+zero_at (suc m) (suc k) = zero_at m k
 
 -- a list of zeros clears
-pub overlaid-zeros : (array : List ℕ) (m count : ℕ) → overlaid array (replicate m 0) count ≡ overlaid array [] count
-overlaid-zeros array m count = overlaid-ext array (replicate m 0) [] count (λ k l. zero-at m k)
+pub overlaid_zeros : (array : List ℕ) (m count : ℕ) → overlaid array (replicate m 0) count ≡ overlaid array [] count
+overlaid_zeros array m count = overlaid_ext array (replicate m 0) [] count (λ k l. zero_at m k)
 
 -- the numbers below count are the list
-pub take-overlaid : (array list : List ℕ) (count : ℕ) → length list ≡ count → count ≤ length array → take count (overlaid array list count) ≡ list
-take-overlaid array list count e h =
-    let full : length (take count (overlaid array list count)) ≡ count = length-take-le count (overlaid array list count) (omega (arith, overlaid-length array list count)) in
+pub take_overlaid : (array list : List ℕ) (count : ℕ) → length list ≡ count → count ≤ length array → take count (overlaid array list count) ≡ list
+take_overlaid array list count e h =
+    let full : length (take count (overlaid array list count)) ≡ count = length-take-le count (overlaid array list count) (omega (arith, overlaid_length array list count)) in
     ext_get_or 0 (take count (overlaid array list count)) list (full ∙ sym e)
-    (λ k l. get_or-take count (overlaid array list count) k 0 (omega arith) ∙ overlaid-at array list count k (omega arith) (omega arith))
+    (λ k l. get_or-take count (overlaid array list count) k 0 (omega arith) ∙ overlaid_at array list count k (omega arith) (omega arith))
 
 -- a plan that is accepted is the one read from its array
-pub laid-rates : (array : List ℕ) (n t : ℕ) (rates : List ℕ) → length array ≡ mostFlows → IsPlan n t rates → take (n * n) (overlaid array rates (n * n)) ≡ rates
-laid-rates array n t rates e p = take-overlaid array rates (n * n) p.square (omega (arith, square-small n p.few-ports))
+pub laid_rates : (array : List ℕ) (n t : ℕ) (rates : List ℕ) → length array ≡ most_flows → IsPlan n t rates → take (n * n) (overlaid array rates (n * n)) ≡ rates
+laid_rates array n t rates e p = take_overlaid array rates (n * n) p.square (omega (arith, square_small n p.few_ports))

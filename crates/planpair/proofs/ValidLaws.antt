@@ -5,50 +5,50 @@ use mathlib.Core.Bool.{Bool, true, false, not, ◌&&◌, ◌||◌}
 use native.Mathlib.Omega.{arith}
 use lib.Dec.{eqb}
 use borrow.Author.Tests.{eqb-true, eq-eqb}
-use Rattle.refusal.specs.Chain.{ifAccepted}
+use Rattle.refusal.specs.Chain.{if_accepted}
 use Rattle.refusal.specs.declared.Verdict.{Verdict}
 use Rattle.refusal.specs.declared.Verdict.TheVariants.{Accepted, Refused}
-use Rattle.plan.specs.Accept.{acceptOf}
+use Rattle.plan.specs.Accept.{accept_of}
 use Rattle.plan.specs.declared.Plan.{Plan}
-use Rattle.plan.proofs.BelowLaws.{and-true}
+use Rattle.plan.proofs.BelowLaws.{and_true}
 use Rattle.plan.proofs.AcceptLaws.{accepted, accepts}
-use Rattle.planpair.specs.Rates.{planRates}
-use Rattle.planpair.specs.Valid.{planValid, samePorts, plansValid, IsPlanOf}
+use Rattle.planpair.specs.Rates.{plan_rates}
+use Rattle.planpair.specs.Valid.{plan_valid, same_ports, plans_valid, IsPlanOf}
 
-plan-valid : (p : Plan) → planValid p ≡ true → IsPlanOf p
-unfolding planValid
-plan-valid p e = accepted p.ports p.frame (planRates p) (go (acceptOf p.ports p.frame (planRates p)) e)
+plan_valid_lem : (p : Plan) → plan_valid p ≡ true → IsPlanOf p
+unfolding plan_valid
+plan_valid_lem p e = accepted p.ports p.frame (plan_rates p) (go (accept_of p.ports p.frame (plan_rates p)) e)
   where
-    go : (v : Verdict) → ifAccepted v true false ≡ true → v ≡ Accepted
+    go : (v : Verdict) → if_accepted v true false ≡ true → v ≡ Accepted
     go Accepted e = refl
     go (Refused r) e = let z : ◌≡◌ {A = ℕ} 0 1 = cc in absurd (omega arith)
 
-plan-is-valid : (p : Plan) → IsPlanOf p → planValid p ≡ true
-unfolding planValid
-plan-is-valid p h = simp (accepts p.ports p.frame (planRates p) h)
+plan_is_valid : (p : Plan) → IsPlanOf p → plan_valid p ≡ true
+unfolding plan_valid
+plan_is_valid p h = simp (accepts p.ports p.frame (plan_rates p) h)
 
 module _ (p q : Plan) (waits : Bool) where
-  pub running-valid : plansValid p q waits ≡ true → IsPlanOf p
-  unfolding plansValid
-  running-valid e = plan-valid p (and-true (planValid p) (not waits || (planValid q && samePorts p q)) e).0
+  pub running-valid : plans_valid p q waits ≡ true → IsPlanOf p
+  unfolding plans_valid
+  running-valid e = plan_valid_lem p (and_true (plan_valid p) (not waits || (plan_valid q && same_ports p q)) e).0
 
-  pub waiting-valid : plansValid p q waits ≡ true → waits ≡ true → IsPlanOf q × (p.ports ≡ q.ports) × (p.frame ≡ q.frame)
-  unfolding plansValid
+  pub waiting-valid : plans_valid p q waits ≡ true → waits ≡ true → IsPlanOf q × (p.ports ≡ q.ports) × (p.frame ≡ q.frame)
+  unfolding plans_valid
   waiting-valid e w =
-      let rest = (and-true (planValid p) (not waits || (planValid q && samePorts p q)) e).1 in
-      let both = and-true (planValid q) (samePorts p q) (rw w at rest) in
-      let same = and-true (eqb p.ports q.ports) (eqb p.frame q.frame) both.1 in
-      (plan-valid q both.0, eqb-true _ _ same.0, eqb-true _ _ same.1)
+      let rest = (and_true (plan_valid p) (not waits || (plan_valid q && same_ports p q)) e).1 in
+      let both = and_true (plan_valid q) (same_ports p q) (rw w at rest) in
+      let same = and_true (eqb p.ports q.ports) (eqb p.frame q.frame) both.1 in
+      (plan_valid_lem q both.0, eqb-true _ _ same.0, eqb-true _ _ same.1)
 
-  pub plans-are-valid : IsPlanOf p → (waits ≡ true → IsPlanOf q) → (waits ≡ true → p.ports ≡ q.ports) → (waits ≡ true → p.frame ≡ q.frame) → plansValid p q waits ≡ true
-  unfolding plansValid
+  pub plans-are-valid : IsPlanOf p → (waits ≡ true → IsPlanOf q) → (waits ≡ true → p.ports ≡ q.ports) → (waits ≡ true → p.frame ≡ q.frame) → plans_valid p q waits ≡ true
+  unfolding plans_valid
   plans-are-valid hp hq ports frame = go waits refl
     where
-      go : (b : Bool) → waits ≡ b → (planValid p && (not waits || (planValid q && samePorts p q))) ≡ true
-      go true w = simp (plan-is-valid p hp, plan-is-valid q (hq w), w, eq-eqb _ _ (ports w), eq-eqb _ _ (frame w))
-      go false w = simp (plan-is-valid p hp, w)
+      go : (b : Bool) → waits ≡ b → (plan_valid p && (not waits || (plan_valid q && same_ports p q))) ≡ true
+      go true w = simp (plan_is_valid p hp, plan_is_valid q (hq w), w, eq-eqb _ _ (ports w), eq-eqb _ _ (frame w))
+      go false w = simp (plan_is_valid p hp, w)
 
   -- where all but the last test has passed
-  pub frames-left : planValid p ≡ true → not waits ≡ false → planValid q ≡ true → p.ports ≡ q.ports → eqb p.frame q.frame ≡ plansValid p q waits
-  unfolding plansValid
+  pub frames-left : plan_valid p ≡ true → not waits ≡ false → plan_valid q ≡ true → p.ports ≡ q.ports → eqb p.frame q.frame ≡ plans_valid p q waits
+  unfolding plans_valid
   frames-left a w b e = simp (a, w, b, eq-eqb p.ports q.ports e)

@@ -9,8 +9,8 @@ overlaid array list zero = array
 overlaid array list (suc k) = set (overlaid array list k) k (get_or list k 0)
 
 -- the N × N rates of a plan
-abbrev pub planRates : Plan → List ℕ
-planRates p = take (p.ports * p.ports) p.rates
+abbrev pub plan_rates : Plan → List ℕ
+plan_rates p = take (p.ports * p.ports) p.rates
 
-abbrev pub rateAt : Plan → ℕ → ℕ → ℕ
-rateAt p i j = get_or (planRates p) (flow_of p.ports i j) 0
+abbrev pub rate_at : Plan → ℕ → ℕ → ℕ
+rate_at p i j = get_or (plan_rates p) (flow_of p.ports i j) 0

@@ -1,21 +1,21 @@
 -- Number 12 of the two plans: "a plan in the state isn't accepted, or the two differ in N or T". "Number 12 judges a
 -- waiting plan only while one waits."
 use Rattle.std.specs.Prelude.{Bool, true, false, not, ◌&&◌, ◌||◌, eqb}
-use Rattle.refusal.specs.Chain.{ifAccepted}
-use Rattle.plan.specs.Accept.{acceptOf, IsPlan}
+use Rattle.refusal.specs.Chain.{if_accepted}
+use Rattle.plan.specs.Accept.{accept_of, IsPlan}
 use Rattle.plan.specs.declared.Plan.{Plan}
-use Rattle.planpair.specs.Rates.{planRates}
+use Rattle.planpair.specs.Rates.{plan_rates}
 
-unfoldable pub planValid : Plan → Bool
-planValid p = ifAccepted (acceptOf p.ports p.frame (planRates p)) true false
+unfoldable pub plan_valid : Plan → Bool
+plan_valid p = if_accepted (accept_of p.ports p.frame (plan_rates p)) true false
 
 -- "the two differ in N or T"
-abbrev pub samePorts : Plan → Plan → Bool
-samePorts p q = eqb p.ports q.ports && eqb p.frame q.frame
+abbrev pub same_ports : Plan → Plan → Bool
+same_ports p q = eqb p.ports q.ports && eqb p.frame q.frame
 
-unfoldable pub plansValid : Plan → Plan → Bool → Bool
-plansValid running waiting waits = planValid running && (not waits || (planValid waiting && samePorts running waiting))
+unfoldable pub plans_valid : Plan → Plan → Bool → Bool
+plans_valid running waiting waits = plan_valid running && (not waits || (plan_valid waiting && same_ports running waiting))
 
 -- the plan in a struct is an accepted one
 abbrev pub IsPlanOf : Plan → Type 0
-IsPlanOf p = IsPlan p.ports p.frame (planRates p)
+IsPlanOf p = IsPlan p.ports p.frame (plan_rates p)

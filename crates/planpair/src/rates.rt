@@ -1,13 +1,13 @@
 // Lists of rates in the arrays of a plan.
 ghost use Rattle.std.specs.Prelude.{◌≡◌, ◌≤◌, length};
-ghost use Rattle.plan.specs.Range.{mostFlows};
+ghost use Rattle.plan.specs.Range.{most_flows};
 ghost use Rattle.planpair.specs.Rates.{overlaid};
 
 use plan::range::MOST_FLOWS;
 
 // The array with its first `count` places taken from the list.
 pub fn overlay(array: [u16; MOST_FLOWS], list: &[u16], count: usize) -> [u16; MOST_FLOWS]
-    requires { (count ≤ mostFlows) × (count ≤ length list.now) }
+    requires { (count ≤ most_flows) × (count ≤ length list.now) }
     ensures { result ≡ overlaid array list.now count }
 {
     let mut rates = array;

@@ -1,6 +1,6 @@
 // What a takeover makes of the two plans.
 ghost use Rattle.std.specs.Prelude.{◌≡◌, ◌≤◌};
-ghost use Rattle.plan.specs.Range.{mostPorts};
+ghost use Rattle.plan.specs.Range.{most_ports};
 ghost use Rattle.planpair.specs.Takeover.{replaced, cleared};
 
 use crate::rates::overlay;
@@ -9,7 +9,7 @@ use plan::range::MOST_FLOWS;
 
 // A plan with the N, T and rates of the one that takes over.
 pub fn replaced(old: Plan, taken: Plan) -> Plan
-    requires { taken.ports ≤ mostPorts }
+    requires { taken.ports ≤ most_ports }
     ensures { result ≡ replaced old taken }
 {
     let n = taken.ports;
@@ -24,7 +24,7 @@ pub fn replaced(old: Plan, taken: Plan) -> Plan
 
 // A plan whose N, T and rates are 0.
 pub fn cleared(taken: Plan) -> Plan
-    requires { taken.ports ≤ mostPorts }
+    requires { taken.ports ≤ most_ports }
     ensures { result ≡ cleared taken }
 {
     let n = taken.ports;

@@ -1,7 +1,7 @@
 // Whether the two plans keep the rules of number 12. The rates are lent: a plan by value is a copy of its array.
 ghost use Rattle.std.specs.Prelude.{◌≡◌, length};
-ghost use Rattle.plan.specs.Range.{mostFlows};
-ghost use Rattle.planpair.specs.Valid.{planValid, plansValid};
+ghost use Rattle.plan.specs.Range.{most_flows};
+ghost use Rattle.planpair.specs.Valid.{plan_valid, plans_valid};
 
 use plan::acceptance::accept;
 use plan::range::{MOST_FLOWS, ports_in_range};
@@ -9,8 +9,8 @@ use refusal::Verdict;
 
 // N is judged first: the array has N x N rates only up to 16 ports.
 fn plan_valid(n: usize, t: u32, rates: &[u16]) -> bool
-    requires { length rates.now ≡ mostFlows }
-    ensures { result ≡ planValid (record { ports = n; frame = t; rates = rates.now }) }
+    requires { length rates.now ≡ most_flows }
+    ensures { result ≡ plan_valid (record { ports = n; frame = t; rates = rates.now }) }
 {
     if !ports_in_range(n) {
         return false;
@@ -32,7 +32,7 @@ pub fn plans_valid<'a>(
     waiting: &'a [u16; MOST_FLOWS],
     waits: bool,
 ) -> bool
-    ensures { result ≡ plansValid (record { ports = n; frame = t; rates = running.now }) (record { ports = m; frame = u; rates = waiting.now }) waits }
+    ensures { result ≡ plans_valid (record { ports = n; frame = t; rates = running.now }) (record { ports = m; frame = u; rates = waiting.now }) waits }
 {
     if !plan_valid(n, t, running) {
         return false;

@@ -9,14 +9,14 @@ use lib.ListN.{length}
 use Rattle.refusal.specs.Outcome.{outcome}
 use Rattle.refusal.specs.declared.Refusal.TheVariants.{PortsOutOfRange, FrameOutOfRange, ListLength, RowAboveFrame, ColumnAboveFrame, NotPlanText}
 use Rattle.refusal.specs.declared.Verdict.TheVariants.{Accepted, Refused}
-use Rattle.plan.specs.Lines.{rowSum, column_sum}
-use Rattle.plan.specs.Range.{portsInRange, frameInRange}
-use Rattle.plan.specs.Accept.{acceptOf}
-use Rattle.plantext.specs.Bytes.{isDigit}
+use Rattle.plan.specs.Lines.{row_sum, column_sum}
+use Rattle.plan.specs.Range.{ports_in_range, frame_in_range}
+use Rattle.plan.specs.Accept.{accept_of}
+use Rattle.plantext.specs.Bytes.{is_digit}
 use Rattle.plantext.specs.Grammar.{Text}
-use Rattle.plantext.specs.Values.{skip, digitsFrom, number, field, series, ends, values_of}
-use Rattle.plantext.specs.Read.{verdictOf, readTextOf, longestText, mostText}
-use Rattle.plantext.proofs.TextLaws.{same-rules}
+use Rattle.plantext.specs.Values.{skip, digits_from, number, field, series, ends, values_of}
+use Rattle.plantext.specs.Read.{verdict_of, read_text_of, longest_text, most_text}
+use Rattle.plantext.proofs.TextLaws.{same_rules}
 use Rattle.plantext.proofs.Ascii.{ascii}
 
 -- the values of a text for two ports
@@ -30,10 +30,10 @@ forms :
     × (values "\"1\",2\r\n3,\"4\"\r\n" ≡ some (1 ∷ 2 ∷ 3 ∷ 4 ∷ []))
     × (values "00001,\"00002\"\r\n65535,0" ≡ some (1 ∷ 2 ∷ 65535 ∷ 0 ∷ []))
     × (values_of 1 (ascii "0") ≡ some (0 ∷ []))
-unfolding skip digitsFrom number field series ends values_of isDigit
+unfolding skip digits_from number field series ends values_of is_digit
 forms = (refl, refl, refl, refl, refl)
 
-other-bytes :
+other_bytes :
     (values "1, 2\r\n3,4\r\n" ≡ none)
     × (values "1,2\n3,4\n" ≡ none)
     × (values "1,2\r3,4\r" ≡ none)
@@ -42,8 +42,8 @@ other-bytes :
     × (values "1,-2\r\n3,4\r\n" ≡ none)
     × (values "1,2x\r\n3,4\r\n" ≡ none)
     × (values "1;2\r\n3;4\r\n" ≡ none)
-unfolding skip digitsFrom number field series ends values_of isDigit
-other-bytes = (refl, refl, refl, refl, refl, refl, refl, refl)
+unfolding skip digits_from number field series ends values_of is_digit
+other_bytes = (refl, refl, refl, refl, refl, refl, refl, refl)
 
 quotes :
     (values "1,2\"3\r\n4,5\r\n" ≡ none)
@@ -51,24 +51,24 @@ quotes :
     × (values "1,\"2\r\n3,4\r\n" ≡ none)
     × (values "1,2\"\r\n3,4\r\n" ≡ none)
     × (values "1,\"2\"3\r\n4,5\r\n" ≡ none)
-unfolding skip digitsFrom number field series ends values_of isDigit
+unfolding skip digits_from number field series ends values_of is_digit
 quotes = (refl, refl, refl, refl, refl)
 
-empty-fields :
+empty_fields :
     (values ",2\r\n3,4\r\n" ≡ none)
     × (values "1,\"\"\r\n3,4\r\n" ≡ none)
     × (values "1,2,\r\n3,4\r\n" ≡ none)
     × (values "1,\r\n3,4\r\n" ≡ none)
-unfolding skip digitsFrom number field series ends values_of isDigit
-empty-fields = (refl, refl, refl, refl)
+unfolding skip digits_from number field series ends values_of is_digit
+empty_fields = (refl, refl, refl, refl)
 
-numbers-too-long :
+numbers_too_long :
     (values "000001,2\r\n3,4\r\n" ≡ none)
     × (values "\"000001\",2\r\n3,4\r\n" ≡ none)
     × (values "65536,2\r\n3,4\r\n" ≡ none)
     × (values "99999,2\r\n3,4\r\n" ≡ none)
-unfolding skip digitsFrom number field series ends values_of isDigit
-numbers-too-long = (refl, refl, refl, refl)
+unfolding skip digits_from number field series ends values_of is_digit
+numbers_too_long = (refl, refl, refl, refl)
 
 -- an empty line at the beginning, between two records and at the end; a record and a field less and more; no text
 counts :
@@ -81,26 +81,26 @@ counts :
     × (values "1,2,3\r\n3,4\r\n" ≡ none)
     × (values "" ≡ none)
     × (values_of 1 [] ≡ none)
-unfolding skip digitsFrom number field series ends values_of isDigit
+unfolding skip digits_from number field series ends values_of is_digit
 counts = (refl, refl, refl, refl, refl, refl, refl, refl, refl)
 
 -- a text as long as one for its ports can be, and the length for 16 ports
 longest :
     (values_of 1 (ascii "\"00001\"\r\n") ≡ some (1 ∷ []))
-    × (length (ascii "\"00001\"\r\n") ≡ longestText 1)
-    × (mostText ≡ 2064)
-unfolding skip digitsFrom number field series ends values_of isDigit
+    × (length (ascii "\"00001\"\r\n") ≡ longest_text 1)
+    × (most_text ≡ 2064)
+unfolding skip digits_from number field series ends values_of is_digit
 longest = (refl, refl, refl)
 
 -- the grammar has a text exactly if the function reads it
-in-grammar : Text 2 (ascii "1,\"2\"\r\n3,4") (1 ∷ 2 ∷ 3 ∷ 4 ∷ [])
-unfolding skip digitsFrom number field series ends values_of isDigit
-in-grammar = (same-rules 2 _ _ (omega arith)).0 refl
+in_grammar : Text 2 (ascii "1,\"2\"\r\n3,4") (1 ∷ 2 ∷ 3 ∷ 4 ∷ [])
+unfolding skip digits_from number field series ends values_of is_digit
+in_grammar = (same_rules 2 _ _ (omega arith)).0 refl
 
-not-in-grammar : (read : List ℕ) → Text 2 (ascii "1,2\n3,4") read → ⊥
-unfolding skip digitsFrom number field series ends values_of isDigit
-not-in-grammar read h =
-    let e : none ≡ some read = (same-rules 2 (ascii "1,2\n3,4") read (omega arith)).1 h in
+not_in_grammar : (read : List ℕ) → Text 2 (ascii "1,2\n3,4") read → ⊥
+unfolding skip digits_from number field series ends values_of is_digit
+not_in_grammar read h =
+    let e : none ≡ some read = (same_rules 2 (ascii "1,2\n3,4") read (omega arith)).1 h in
     let z : ◌≡◌ {A = ℕ} 0 1 = cc in
     omega arith
 
@@ -110,12 +110,12 @@ before = 9 ∷ 9 ∷ 9 ∷ 9 ∷ []
 
 -- 1, 2, 3, 16, 4, 5: each call but the first has right what the one before had wrong; the list is written at last
 order :
-    (readTextOf 17 0 [] [] ≡ outcome (Refused PortsOutOfRange) [])
-    × (readTextOf 2 0 [] [] ≡ outcome (Refused FrameOutOfRange) [])
-    × (readTextOf 2 3 [] [] ≡ outcome (Refused ListLength) [])
-    × (readTextOf 2 3 (ascii "3,1\r\n1,3\n") before ≡ outcome (Refused NotPlanText) before)
-    × (readTextOf 2 3 (ascii "3,1\r\n1,3\r\n") before ≡ outcome (Refused RowAboveFrame) before)
-    × (readTextOf 2 3 (ascii "2,1\r\n2,1\r\n") before ≡ outcome (Refused ColumnAboveFrame) before)
-    × (readTextOf 2 3 (ascii "2,1\r\n1,2\r\n") before ≡ outcome Accepted (2 ∷ 1 ∷ 1 ∷ 2 ∷ []))
-unfolding readTextOf verdictOf skip digitsFrom number field series ends values_of isDigit portsInRange frameInRange acceptOf rowSum column_sum
+    (read_text_of 17 0 [] [] ≡ outcome (Refused PortsOutOfRange) [])
+    × (read_text_of 2 0 [] [] ≡ outcome (Refused FrameOutOfRange) [])
+    × (read_text_of 2 3 [] [] ≡ outcome (Refused ListLength) [])
+    × (read_text_of 2 3 (ascii "3,1\r\n1,3\n") before ≡ outcome (Refused NotPlanText) before)
+    × (read_text_of 2 3 (ascii "3,1\r\n1,3\r\n") before ≡ outcome (Refused RowAboveFrame) before)
+    × (read_text_of 2 3 (ascii "2,1\r\n2,1\r\n") before ≡ outcome (Refused ColumnAboveFrame) before)
+    × (read_text_of 2 3 (ascii "2,1\r\n1,2\r\n") before ≡ outcome Accepted (2 ∷ 1 ∷ 1 ∷ 2 ∷ []))
+unfolding read_text_of verdict_of skip digits_from number field series ends values_of is_digit ports_in_range frame_in_range accept_of row_sum column_sum
 order = (refl, refl, refl, refl, refl, refl, refl)

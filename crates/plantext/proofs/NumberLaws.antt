@@ -7,29 +7,29 @@ use native.Mathlib.Omega.{arith}
 use lib.Dec.{leb}
 use lib.ListN.{length, length-append}
 use borrow.Author.Tests.{leb-true, le-leb}
-use Rattle.plan.proofs.BelowLaws.{and-true}
-use Rattle.plantext.specs.Bytes.{digit, isDigit, digitOf}
+use Rattle.plan.proofs.BelowLaws.{and_true}
+use Rattle.plantext.specs.Bytes.{digit, is_digit, digit_of}
 use Rattle.plantext.specs.Grammar.{Digits, none, next, Number}
 use Rattle.plantext.specs.Grammar as grammar
-use Rattle.plantext.specs.Values.{parsed, Run, digitsFrom, checkedRun, number}
+use Rattle.plantext.specs.Values.{parsed, Run, digits_from, checked_run, number}
 use Rattle.plantext.proofs.RuleLaws.{Taken, Sound, NoDigit, Complete, never}
 
 -- the byte of a digit, and the digit of a byte
-pub byte-of-digit : (b : ℕ) → isDigit b ≡ true → (digitOf b < 10) × (digit (digitOf b) ≡ b)
-unfolding isDigit
-byte-of-digit b e =
-    let both = and-true (leb 48 b) (leb b 57) e in
+pub byte_of_digit : (b : ℕ) → is_digit b ≡ true → (digit_of b < 10) × (digit (digit_of b) ≡ b)
+unfolding is_digit
+byte_of_digit b e =
+    let both = and_true (leb 48 b) (leb b 57) e in
     (omega (arith, leb-true 48 b both.0, leb-true b 57 both.1), omega (arith, leb-true 48 b both.0))
 
-digit-of-byte : (d : ℕ) → d < 10 → (isDigit (digit d) ≡ true) × (digitOf (digit d) ≡ d)
-unfolding isDigit
-digit-of-byte d h = (simp (le-leb 48 (48 + d) (omega arith), le-leb (48 + d) 57 (omega arith)), omega arith)
+digit_of_byte : (d : ℕ) → d < 10 → (is_digit (digit d) ≡ true) × (digit_of (digit d) ≡ d)
+unfolding is_digit
+digit_of_byte d h = (simp (le-leb 48 (48 + d) (omega arith), le-leb (48 + d) 57 (omega arith)), omega arith)
 
 -- digits whose last one is given by its byte
-next-byte : {text : List ℕ} {value : ℕ} (b : ℕ) → Digits text value → isDigit b ≡ true → Digits (text ++ (b ∷ [])) (value * 10 + digitOf b)
-next-byte {text} {value} b digits e =
-    let known = byte-of-digit b e in
-    subst (λ (c : ℕ). Digits (text ++ (c ∷ [])) (value * 10 + digitOf b)) known.1 (next digits known.0)
+next_byte : {text : List ℕ} {value : ℕ} (b : ℕ) → Digits text value → is_digit b ≡ true → Digits (text ++ (b ∷ [])) (value * 10 + digit_of b)
+next_byte {text} {value} b digits e =
+    let known = byte_of_digit b e in
+    subst (λ (c : ℕ). Digits (text ++ (c ∷ [])) (value * 10 + digit_of b)) known.1 (next digits known.0)
 
 -- Digits that were taken from a text behind others.
 record Spelled (front text : List ℕ) (run : Run) : Type 0 where
@@ -41,8 +41,8 @@ record Spelled (front text : List ℕ) (run : Run) : Type 0 where
 spelled_none : {count value : ℕ} {front text : List ℕ} → Digits front value → length front ≡ count → Spelled front text (record { count = count; value = value; rest = text })
 spelled_none digits size = record { piece = []; split = refl; digits = rw append-nil digits; size = rw append-nil size }
 
-spelled-next : {front text : List ℕ} {run : Run} (b : ℕ) → Spelled (front ++ (b ∷ [])) text run → Spelled front (b ∷ text) run
-spelled-next {front} b later =
+spelled_next : {front text : List ℕ} {run : Run} (b : ℕ) → Spelled (front ++ (b ∷ [])) text run → Spelled front (b ∷ text) run
+spelled_next {front} b later =
     record {
       piece = b ∷ later.piece;
       split = ap (λ (l : List ℕ). b ∷ l) later.split;
@@ -51,41 +51,41 @@ spelled-next {front} b later =
     }
 
 -- what holds if the next byte is a digit that is taken, and if it is none, holds of the run
-digits-case : (P : Run → Type 0) (room count value b : ℕ) (text : List ℕ) → (isDigit b ≡ true → P (digitsFrom room (suc count) (value * 10 + digitOf b) text))
-    → (isDigit b ≡ false → P (record { count = count; value = value; rest = b ∷ text })) → P (digitsFrom (suc room) count value (b ∷ text))
-unfolding digitsFrom
-digits-case P room count value b text taken left = go (isDigit b) refl
+digits_case : (P : Run → Type 0) (room count value b : ℕ) (text : List ℕ) → (is_digit b ≡ true → P (digits_from room (suc count) (value * 10 + digit_of b) text))
+    → (is_digit b ≡ false → P (record { count = count; value = value; rest = b ∷ text })) → P (digits_from (suc room) count value (b ∷ text))
+unfolding digits_from
+digits_case P room count value b text taken left = go (is_digit b) refl
   where
-    go : (is : Bool) → isDigit b ≡ is → P (digitsFrom (suc room) count value (b ∷ text))
+    go : (is : Bool) → is_digit b ≡ is → P (digits_from (suc room) count value (b ∷ text))
     go true e = rw e (taken e)
     go false e = rw e (left e)
 
-spelled : (room count value : ℕ) (front text : List ℕ) → Digits front value → length front ≡ count → Spelled front text (digitsFrom room count value text)
-unfolding digitsFrom
+spelled : (room count value : ℕ) (front text : List ℕ) → Digits front value → length front ≡ count → Spelled front text (digits_from room count value text)
+unfolding digits_from
 spelled zero count value front text digits size = spelled_none digits size
 spelled (suc room) count value front [] digits size = spelled_none digits size
 spelled (suc room) count value front (b ∷ text) digits size =
-    digits-case (Spelled front (b ∷ text)) room count value b text
-    (λ e. spelled-next b (spelled room (suc count) _ (front ++ (b ∷ [])) text (next-byte b digits e) (simp length-append (omega arith))))
+    digits_case (Spelled front (b ∷ text)) room count value b text
+    (λ e. spelled_next b (spelled room (suc count) _ (front ++ (b ∷ [])) text (next_byte b digits e) (simp length-append (omega arith))))
     (λ _. spelled_none digits size)
 
 -- no more digits are taken than there is room for
-few-digits : (room count value : ℕ) (text : List ℕ) → (digitsFrom room count value text).count ≤ count + room
-unfolding digitsFrom
-few-digits zero count value text = omega arith
-few-digits (suc room) count value [] = omega arith
-few-digits (suc room) count value (b ∷ text) =
-    digits-case (λ run. run.count ≤ count + suc room) room count value b text
-    (λ _. omega (arith, few-digits room (suc count) (value * 10 + digitOf b) text))
+few_digits : (room count value : ℕ) (text : List ℕ) → (digits_from room count value text).count ≤ count + room
+unfolding digits_from
+few_digits zero count value text = omega arith
+few_digits (suc room) count value [] = omega arith
+few_digits (suc room) count value (b ∷ text) =
+    digits_case (λ run. run.count ≤ count + suc room) room count value b text
+    (λ _. omega (arith, few_digits room (suc count) (value * 10 + digit_of b) text))
     (λ _. omega arith)
 
 -- a run that passes the tests is a number
-checked : (run : Run) (text values rest : List ℕ) → Spelled [] text run → run.count ≤ 5 → checkedRun run ≡ parsed values rest → Taken Number text values rest
+checked : (run : Run) (text values rest : List ℕ) → Spelled [] text run → run.count ≤ 5 → checked_run run ≡ parsed values rest → Taken Number text values rest
 checked run text values rest s few e = go (leb 1 run.count && leb run.value 65535) refl
   where
     go : (is : Bool) → (leb 1 run.count && leb run.value 65535) ≡ is → Taken Number text values rest
     go true h =
-        let tests = and-true (leb 1 run.count) (leb run.value 65535) h in
+        let tests = and_true (leb 1 run.count) (leb run.value 65535) h in
         let some = leb-true 1 run.count tests.0 in
         let small = leb-true run.value 65535 tests.1 in
         let same : parsed (run.value ∷ []) run.rest ≡ parsed values rest = rw h at e in
@@ -98,32 +98,32 @@ checked run text values rest s few e = go (leb 1 run.count && leb run.value 6553
         }
     go false h = absurd (never (rw h at e))
 
-pub number-sound : Sound number Number
+pub number_sound : Sound number Number
 unfolding number
-number-sound text values rest e = checked (digitsFrom 5 0 0 text) text values rest (spelled 5 0 0 [] text none refl) (few-digits 5 0 0 text) e
+number_sound text values rest e = checked (digits_from 5 0 0 text) text values rest (spelled 5 0 0 [] text none refl) (few_digits 5 0 0 text) e
 
 -- Digits at the beginning of a text are taken, if there is room for them ..
-all-taken : {piece : List ℕ} {value : ℕ} → Digits piece value → (left : ℕ) (rest : List ℕ)
-    → digitsFrom (length piece + left) 0 0 (piece ++ rest) ≡ digitsFrom left (length piece) value rest
-unfolding digitsFrom
-all-taken none left rest = let room : 0 + left ≡ left = omega arith in rw room refl
-all-taken (next {text = text} {value = value} {d = d} digits h) left rest =
-    let is = digit-of-byte d h in
+all_taken : {piece : List ℕ} {value : ℕ} → Digits piece value → (left : ℕ) (rest : List ℕ)
+    → digits_from (length piece + left) 0 0 (piece ++ rest) ≡ digits_from left (length piece) value rest
+unfolding digits_from
+all_taken none left rest = let room : 0 + left ≡ left = omega arith in rw room refl
+all_taken (next {text = text} {value = value} {d = d} digits h) left rest =
+    let is = digit_of_byte d h in
     let size : length (text ++ (digit d ∷ [])) ≡ suc (length text) = simp length-append (omega arith) in
     let room : length (text ++ (digit d ∷ [])) + left ≡ length text + suc left = omega (arith, size) in
-    rw (room, append_assoc, all-taken digits (suc left) (digit d ∷ rest), is.0, is.1, size) refl
+    rw (room, append_assoc, all_taken digits (suc left) (digit d ∷ rest), is.0, is.1, size) refl
 
 -- .. and no more, where no other follows.
-pub none-taken : (room count value : ℕ) (rest : List ℕ) → NoDigit rest → digitsFrom room count value rest ≡ record { count = count; value = value; rest = rest }
-unfolding digitsFrom
-none-taken zero count value rest clear = refl
-none-taken (suc room) count value [] clear = refl
-none-taken (suc room) count value (b ∷ rest) clear = rw clear refl
+pub none_taken : (room count value : ℕ) (rest : List ℕ) → NoDigit rest → digits_from room count value rest ≡ record { count = count; value = value; rest = rest }
+unfolding digits_from
+none_taken zero count value rest clear = refl
+none_taken (suc room) count value [] clear = refl
+none_taken (suc room) count value (b ∷ rest) clear = rw clear refl
 
-pub number-complete : Complete number Number
+pub number_complete : Complete number Number
 unfolding number
-number-complete piece values rest (grammar.number {text = text} {value = value} digits some few small) clear =
+number_complete piece values rest (grammar.number {text = text} {value = value} digits some few small) clear =
     let room : 5 ≡ length text + (5 - length text) = omega arith in
-    let run : digitsFrom 5 0 0 (text ++ rest) ≡ record { count = length text; value = value; rest = rest } =
-    ap (λ (k : ℕ). digitsFrom k 0 0 (text ++ rest)) room ∙ all-taken digits (5 - length text) rest ∙ none-taken (5 - length text) (length text) value rest clear in
+    let run : digits_from 5 0 0 (text ++ rest) ≡ record { count = length text; value = value; rest = rest } =
+    ap (λ (k : ℕ). digits_from k 0 0 (text ++ rest)) room ∙ all_taken digits (5 - length text) rest ∙ none_taken (5 - length text) (length text) value rest clear in
     rw (run, le-leb 1 (length text) some, le-leb value 65535 small) refl

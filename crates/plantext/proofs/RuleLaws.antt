@@ -7,9 +7,9 @@ use mathlib.Core.List.{List, [], ◌∷◌, ◌++◌, append_assoc, append-nil}
 use native.Mathlib.Omega.{arith}
 use lib.Dec.{eqb}
 use borrow.Author.Tests.{eqb-true, eq-eqb}
-use Rattle.plantext.specs.Bytes.{isDigit}
+use Rattle.plantext.specs.Bytes.{is_digit}
 use Rattle.plantext.specs.Grammar.{Series, one, more}
-use Rattle.plantext.specs.Values.{Parsed, nothing, parsed, prefixed, followedBy, skip, before, series}
+use Rattle.plantext.specs.Values.{Parsed, nothing, parsed, prefixed, followed_by, skip, before, series}
 
 -- a piece at the beginning of a text that has these values by the grammar, and what is left behind it
 pub record Taken (Piece : List ℕ → List ℕ → Type 0) (text values rest : List ℕ) : Type 0 where
@@ -24,7 +24,7 @@ Sound rule Piece = (text values rest : List ℕ) → rule text ≡ parsed values
 -- a text that doesn't begin with a digit: a number ends before it
 abbrev pub NoDigit : List ℕ → Type 0
 NoDigit [] = Unit {0}
-NoDigit (b ∷ text) = isDigit b ≡ false
+NoDigit (b ∷ text) = is_digit b ≡ false
 
 -- what is in the grammar, the function takes
 abbrev pub Complete : (List ℕ → Parsed) → (List ℕ → List ℕ → Type 0) → Type 0
@@ -38,13 +38,13 @@ pub record Both (first : Parsed) (rule : List ℕ → Parsed) (values rest : Lis
   pub early : List ℕ
   pub middle : List ℕ
   pub late : List ℕ
-  pub first-took : first ≡ parsed early middle
-  pub then-took : rule middle ≡ parsed late rest
+  pub first_took : first ≡ parsed early middle
+  pub then_took : rule middle ≡ parsed late rest
   pub together : values ≡ early ++ late
 
-pub then-both : (first : Parsed) (rule : List ℕ → Parsed) (values rest : List ℕ) → followedBy first rule ≡ parsed values rest → Both first rule values rest
-then-both nothing rule values rest e = absurd (never e)
-then-both (parsed early middle) rule values rest e = go (rule middle) refl
+pub then_both : (first : Parsed) (rule : List ℕ → Parsed) (values rest : List ℕ) → followed_by first rule ≡ parsed values rest → Both first rule values rest
+then_both nothing rule values rest e = absurd (never e)
+then_both (parsed early middle) rule values rest e = go (rule middle) refl
   where
     go : (second : Parsed) → rule middle ≡ second → Both (parsed early middle) rule values rest
     go nothing h = absurd (never (sym (ap (prefixed early) h) ∙ e))
@@ -54,16 +54,16 @@ then-both (parsed early middle) rule values rest e = go (rule middle) refl
           early = early;
           middle = middle;
           late = late;
-          first-took = refl;
-          then-took = cc;
+          first_took = refl;
+          then_took = cc;
           together = cc;
         }
 
-pub skip-sound : (mark text values rest : List ℕ) → skip mark text ≡ parsed values rest → (values ≡ []) × (text ≡ mark ++ rest)
+pub skip_sound : (mark text values rest : List ℕ) → skip mark text ≡ parsed values rest → (values ≡ []) × (text ≡ mark ++ rest)
 unfolding skip
-skip-sound [] text values rest e = (cc, cc)
-skip-sound (m ∷ mark) [] values rest e = absurd (never e)
-skip-sound (m ∷ mark) (b ∷ text) values rest e = go (eqb b m) refl (skip-sound mark text values rest)
+skip_sound [] text values rest e = (cc, cc)
+skip_sound (m ∷ mark) [] values rest e = absurd (never e)
+skip_sound (m ∷ mark) (b ∷ text) values rest e = go (eqb b m) refl (skip_sound mark text values rest)
   where
     go : (same : Bool) → eqb b m ≡ same → (skip mark text ≡ parsed values rest → (values ≡ []) × (text ≡ mark ++ rest))
         → (values ≡ []) × (b ∷ text ≡ m ∷ (mark ++ rest))
@@ -73,14 +73,14 @@ skip-sound (m ∷ mark) (b ∷ text) values rest e = go (eqb b m) refl (skip-sou
         (later.0, cc)
     go false h behind-it = absurd (never (rw h at e))
 
-skip-complete : (mark rest : List ℕ) → skip mark (mark ++ rest) ≡ parsed [] rest
+skip_complete : (mark rest : List ℕ) → skip mark (mark ++ rest) ≡ parsed [] rest
 unfolding skip
-skip-complete [] rest = refl
-skip-complete (m ∷ mark) rest = rw (eq-eqb m m refl) (skip-complete mark rest)
+skip_complete [] rest = refl
+skip_complete (m ∷ mark) rest = rw (eq-eqb m m refl) (skip_complete mark rest)
 
-pub prefixed-none : (p : Parsed) → prefixed [] p ≡ p
-prefixed-none nothing = refl
-prefixed-none (parsed values rest) = refl
+pub prefixed_none : (p : Parsed) → prefixed [] p ≡ p
+prefixed_none nothing = refl
+prefixed_none (parsed values rest) = refl
 
 -- A series of items whose function and grammar agree, with a mark that begins with no digit.
 module _ (item : List ℕ → Parsed) (Item : List ℕ → List ℕ → Type 0) (mark : List ℕ) where
@@ -100,14 +100,14 @@ module _ (item : List ℕ → Parsed) (Item : List ℕ → List ℕ → Type 0) 
   pub series-sound : Sound item Item → (k : ℕ) → Sound (series item mark (suc k)) (Series Item mark (suc k))
   unfolding series skip
   series-sound sound zero text values rest e =
-      let taken = sound text values rest (sym (prefixed-none (item text)) ∙ e) in
+      let taken = sound text values rest (sym (prefixed_none (item text)) ∙ e) in
       record { piece = taken.piece; split = taken.split; holds = one taken.holds }
   series-sound sound (suc k) text values rest e =
-      let outer = then-both (followedBy (series item mark (suc k) text) (skip mark)) item values rest e in
-      let inner = then-both (series item mark (suc k) text) (skip mark) outer.early outer.middle outer.first-took in
-      let passed = skip-sound mark inner.middle inner.late outer.middle inner.then-took in
-      let most = series-sound sound k text inner.early inner.middle inner.first-took in
-      let last = sound outer.middle outer.late rest outer.then-took in
+      let outer = then_both (followed_by (series item mark (suc k) text) (skip mark)) item values rest e in
+      let inner = then_both (series item mark (suc k) text) (skip mark) outer.early outer.middle outer.first_took in
+      let passed = skip_sound mark inner.middle inner.late outer.middle inner.then_took in
+      let most = series-sound sound k text inner.early inner.middle inner.first_took in
+      let last = sound outer.middle outer.late rest outer.then_took in
       let all : inner.early ++ outer.late ≡ values = cc (append-nil inner.early) in
       subst (λ (v : List ℕ). Taken (Series Item mark (suc (suc k))) text v rest) all (taken_next most passed.1 last)
 
@@ -117,7 +117,7 @@ module _ (item : List ℕ → Parsed) (Item : List ℕ → List ℕ → Type 0) 
 
   pub series-complete : Complete item Item → ((text : List ℕ) → NoDigit (mark ++ text)) → (k : ℕ) → Complete (series item mark k) (Series Item mark k)
   unfolding series skip
-  series-complete complete stops k piece values rest (one {text = text} h) clear = prefixed-none (item (text ++ rest)) ∙ complete text values rest h clear
+  series-complete complete stops k piece values rest (one {text = text} h) clear = prefixed_none (item (text ++ rest)) ∙ complete text values rest h clear
   series-complete complete stops k piece values rest (more {k = j} {text = text} {values = early} {last = last} {new = new} s h) clear =
       let most = series-complete complete stops j text early (mark ++ (last ++ rest)) s (stops (last ++ rest)) in
-      rw (append_assoc, append_assoc, most, some-items s, skip-complete, complete last new rest h clear, append-nil) refl
+      rw (append_assoc, append_assoc, most, some-items s, skip_complete, complete last new rest h clear, append-nil) refl

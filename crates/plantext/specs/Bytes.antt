@@ -6,11 +6,11 @@ abbrev pub digit : ℕ → ℕ
 digit d = 48 + d
 
 -- whether a byte is that of a digit, and of which one
-unfoldable pub isDigit : ℕ → Bool
-isDigit byte = leb 48 byte && leb byte 57
+unfoldable pub is_digit : ℕ → Bool
+is_digit byte = leb 48 byte && leb byte 57
 
-abbrev pub digitOf : ℕ → ℕ
-digitOf byte = byte - 48
+abbrev pub digit_of : ℕ → ℕ
+digit_of byte = byte - 48
 
 -- a comma
 abbrev pub comma : List ℕ
@@ -21,5 +21,5 @@ abbrev pub quote : List ℕ
 quote = 34 ∷ []
 
 -- CR LF
-abbrev pub lineEnd : List ℕ
-lineEnd = 13 ∷ 10 ∷ []
+abbrev pub line_end : List ℕ
+line_end = 13 ∷ 10 ∷ []

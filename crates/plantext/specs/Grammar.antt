@@ -7,7 +7,7 @@
 -- Each rule relates a piece of text to the values that stand in it, in order. That specs/Values.antt has the same texts with
 -- the same values is the theorem `SameRules` there.
 use Rattle.std.specs.Prelude.{ℕ, suc, ◌+◌, ◌*◌, ◌<◌, ◌≤◌, List, [], ◌∷◌, ◌++◌, length}
-use Rattle.plantext.specs.Bytes.{digit, comma, quote, lineEnd}
+use Rattle.plantext.specs.Bytes.{digit, comma, quote, line_end}
 
 -- decimal digits, and the number that they write; none write 0
 pub data Digits : List ℕ → ℕ → Type 0 where
@@ -35,9 +35,9 @@ Record n = Series Field comma n
 
 -- "record count .. N"
 abbrev pub Records : ℕ → List ℕ → List ℕ → Type 0
-Records n = Series (Record n) lineEnd n
+Records n = Series (Record n) line_end n
 
 -- "lines end in CR LF, the last one with or without"
 pub data Text (n : ℕ) : List ℕ → List ℕ → Type 0 where
   unended : {text values : List ℕ} → Records n text values → Text n text values
-  ended : {text values : List ℕ} → Records n text values → Text n (text ++ lineEnd) values
+  ended : {text values : List ℕ} → Records n text values → Text n (text ++ line_end) values

@@ -2,13 +2,13 @@
 -- that breaks these rules, after 1 to 3, before 4."
 use Rattle.std.specs.Prelude.{ℕ, ◌+◌, ◌*◌, ◌-◌, Bool, true, false, not, List, []}
 use Rattle.std.proofs.Math.Option.{Option, none, some, get_or}
-use Rattle.refusal.specs.Chain.{refuseIf}
+use Rattle.refusal.specs.Chain.{refuse_if}
 use Rattle.refusal.specs.Outcome.{Outcome, written}
 use Rattle.refusal.specs.declared.Refusal.TheVariants.{PortsOutOfRange, FrameOutOfRange, ListLength, NotPlanText}
 use Rattle.refusal.specs.declared.Verdict.{Verdict}
-use Rattle.plan.specs.Range.{mostPorts, portsInRange, frameInRange}
-use Rattle.plan.specs.Lines.{isSquare}
-use Rattle.plan.specs.Accept.{acceptOf}
+use Rattle.plan.specs.Range.{most_ports, ports_in_range, frame_in_range}
+use Rattle.plan.specs.Lines.{is_square}
+use Rattle.plan.specs.Accept.{accept_of}
 use Rattle.plantext.specs.Values.{values_of}
 
 -- whether there is a value
@@ -17,32 +17,32 @@ is_some none = false
 is_some (some x) = true
 
 -- whether a text keeps to the rules
-abbrev pub isText : ℕ → List ℕ → Bool
-isText n text = is_some (values_of n text)
+abbrev pub is_text : ℕ → List ℕ → Bool
+is_text n text = is_some (values_of n text)
 
 -- its values; of a text that doesn't, none
-abbrev pub valuesIn : ℕ → List ℕ → List ℕ
-valuesIn n text = get_or (values_of n text) []
+abbrev pub values_in : ℕ → List ℕ → List ℕ
+values_in n text = get_or (values_of n text) []
 
 -- the text's rules, then what makes a plan acceptable
-abbrev pub judgedOf : ℕ → ℕ → List ℕ → Verdict
-judgedOf n t text = refuseIf (not (isText n text)) NotPlanText (acceptOf n t (valuesIn n text))
+abbrev pub judged_of : ℕ → ℕ → List ℕ → Verdict
+judged_of n t text = refuse_if (not (is_text n text)) NotPlanText (accept_of n t (values_in n text))
 
-unfoldable pub verdictOf : ℕ → ℕ → List ℕ → List ℕ → Verdict
-verdictOf n t text rates =
-    refuseIf (not (portsInRange n)) PortsOutOfRange
-    (refuseIf (not (frameInRange t)) FrameOutOfRange
-    (refuseIf (not (isSquare n rates)) ListLength
-    (judgedOf n t text)))
+unfoldable pub verdict_of : ℕ → ℕ → List ℕ → List ℕ → Verdict
+verdict_of n t text rates =
+    refuse_if (not (ports_in_range n)) PortsOutOfRange
+    (refuse_if (not (frame_in_range t)) FrameOutOfRange
+    (refuse_if (not (is_square n rates)) ListLength
+    (judged_of n t text)))
 
 -- the values of an accepted text are written, and a refused call writes nothing
-unfoldable pub readTextOf : ℕ → ℕ → List ℕ → List ℕ → Outcome
-readTextOf n t text rates = written (verdictOf n t text rates) (valuesIn n text) rates
+unfoldable pub read_text_of : ℕ → ℕ → List ℕ → List ℕ → Outcome
+read_text_of n t text rates = written (verdict_of n t text rates) (values_in n text) rates
 
 -- The bytes of the longest text for N ports: N × N quoted fields of five digits, N − 1 commas in each of N records, and N
 -- times CR LF. No text of the grammar is longer (proofs/LengthLaws.antt).
-abbrev pub longestText : ℕ → ℕ
-longestText n = n * n * 7 + n * (n - 1) + n * 2
+abbrev pub longest_text : ℕ → ℕ
+longest_text n = n * n * 7 + n * (n - 1) + n * 2
 
-abbrev pub mostText : ℕ
-mostText = longestText mostPorts
+abbrev pub most_text : ℕ
+most_text = longest_text most_ports

@@ -2,7 +2,7 @@
 -- from what is left. specs/Grammar.antt says what the rules are; `SameRules`, below, that the two agree.
 use Rattle.std.specs.Prelude.{ℕ, zero, suc, ◌+◌, ◌*◌, ◌≤◌, Bool, true, false, cond, ◌&&◌, ◌||◌, List, [], ◌∷◌, ◌++◌, ◌↔◌, ◌≡◌, leb, eqb}
 use Rattle.std.proofs.Math.Option.{Option, none, some}
-use Rattle.plantext.specs.Bytes.{isDigit, digitOf, comma, quote, lineEnd}
+use Rattle.plantext.specs.Bytes.{is_digit, digit_of, comma, quote, line_end}
 use Rattle.plantext.specs.Grammar.{Text}
 
 -- what a rule makes of a text: the values that it took from its beginning and what is left behind them, or nothing
@@ -16,9 +16,9 @@ prefixed values nothing = nothing
 prefixed values (parsed more rest) = parsed (values ++ more) rest
 
 -- one rule, and then another on what is left
-abbrev pub followedBy : Parsed → (List ℕ → Parsed) → Parsed
-followedBy nothing rule = nothing
-followedBy (parsed values rest) rule = prefixed values (rule rest)
+abbrev pub followed_by : Parsed → (List ℕ → Parsed) → Parsed
+followed_by nothing rule = nothing
+followed_by (parsed values rest) rule = prefixed values (rule rest)
 
 -- a mark, which stands for no value
 unfoldable pub skip : List ℕ → List ℕ → Parsed
@@ -33,26 +33,26 @@ pub record Run : Type 0 where
   pub rest : List ℕ
 
 -- `room` more digits, behind those that were counted and make up the value
-unfoldable pub digitsFrom : ℕ → ℕ → ℕ → List ℕ → Run
-digitsFrom zero count value text = record { count = count; value = value; rest = text }
-digitsFrom (suc room) count value [] = record { count = count; value = value; rest = [] }
-digitsFrom (suc room) count value (b ∷ text) =
-    cond (isDigit b) (digitsFrom room (suc count) (value * 10 + digitOf b) text) (record { count = count; value = value; rest = b ∷ text })
+unfoldable pub digits_from : ℕ → ℕ → ℕ → List ℕ → Run
+digits_from zero count value text = record { count = count; value = value; rest = text }
+digits_from (suc room) count value [] = record { count = count; value = value; rest = [] }
+digits_from (suc room) count value (b ∷ text) =
+    cond (is_digit b) (digits_from room (suc count) (value * 10 + digit_of b) text) (record { count = count; value = value; rest = b ∷ text })
 
 -- "one to five decimal digits", and no "value above 65,535"
-abbrev pub checkedRun : Run → Parsed
-checkedRun run = cond (leb 1 run.count && leb run.value 65535) (parsed (run.value ∷ []) run.rest) nothing
+abbrev pub checked_run : Run → Parsed
+checked_run run = cond (leb 1 run.count && leb run.value 65535) (parsed (run.value ∷ []) run.rest) nothing
 
 unfoldable pub number : List ℕ → Parsed
-number text = checkedRun (digitsFrom 5 0 0 text)
+number text = checked_run (digits_from 5 0 0 text)
 
 -- "plain or in double quotes"
-abbrev pub fieldBehind : Parsed → List ℕ → Parsed
-fieldBehind nothing text = number text
-fieldBehind (parsed values inside) text = followedBy (number inside) (skip quote)
+abbrev pub field_behind : Parsed → List ℕ → Parsed
+field_behind nothing text = number text
+field_behind (parsed values inside) text = followed_by (number inside) (skip quote)
 
 unfoldable pub field : List ℕ → Parsed
-field text = fieldBehind (skip quote text) text
+field text = field_behind (skip quote text) text
 
 -- what stands before item number k, counted from 0: a mark, but for the first item
 abbrev pub before : List ℕ → ℕ → List ℕ
@@ -62,24 +62,24 @@ before mark (suc k) = mark
 -- so many items with a mark between each two
 unfoldable pub series : (List ℕ → Parsed) → List ℕ → ℕ → List ℕ → Parsed
 series item mark zero text = parsed [] text
-series item mark (suc k) text = followedBy (followedBy (series item mark k text) (skip (before mark k))) item
+series item mark (suc k) text = followed_by (followed_by (series item mark k text) (skip (before mark k))) item
 
 -- "Each record is one input", with n fields
-abbrev pub recordOf : ℕ → List ℕ → Parsed
-recordOf n = series field comma n
+abbrev pub record_of : ℕ → List ℕ → Parsed
+record_of n = series field comma n
 
-abbrev pub recordsOf : ℕ → List ℕ → Parsed
-recordsOf n = series (recordOf n) lineEnd n
+abbrev pub records_of : ℕ → List ℕ → Parsed
+records_of n = series (record_of n) line_end n
 
 -- whether nothing is left
-abbrev pub atEnd : Parsed → Bool
-atEnd nothing = false
-atEnd (parsed values []) = true
-atEnd (parsed values (b ∷ rest)) = false
+abbrev pub at_end : Parsed → Bool
+at_end nothing = false
+at_end (parsed values []) = true
+at_end (parsed values (b ∷ rest)) = false
 
 -- "lines end in CR LF, the last one with or without": nothing is left, or one CR LF
 unfoldable pub ends : List ℕ → Bool
-ends rest = atEnd (parsed [] rest) || atEnd (skip lineEnd rest)
+ends rest = at_end (parsed [] rest) || at_end (skip line_end rest)
 
 abbrev pub whole : Parsed → Option (List ℕ)
 whole nothing = none
@@ -87,7 +87,7 @@ whole (parsed values rest) = cond (ends rest) (some values) none
 
 -- the values of a text for N ports, row by row, if it keeps to the rules
 unfoldable pub values_of : ℕ → List ℕ → Option (List ℕ)
-values_of n text = whole (recordsOf n text)
+values_of n text = whole (records_of n text)
 
 -- The function yields these values exactly if the text is in the grammar with these values (proofs/TextLaws.antt,
 -- same-rules). A plan has at least one port.

@@ -1,9 +1,9 @@
 // Decimal digits in ASCII.
 ghost use Rattle.std.specs.Prelude.{true, ◌≡◌, ◌<◌};
-ghost use Rattle.plantext.specs.Bytes.{isDigit, digitOf};
+ghost use Rattle.plantext.specs.Bytes.{is_digit, digit_of};
 
 pub fn is_digit(byte: u8) -> bool
-    ensures { result ≡ isDigit byte }
+    ensures { result ≡ is_digit byte }
 {
     if byte < b'0' {
         return false;
@@ -12,8 +12,8 @@ pub fn is_digit(byte: u8) -> bool
 }
 
 pub fn digit_of(byte: u8) -> u32
-    requires { isDigit byte ≡ true }
-    ensures { (result ≡ digitOf byte) × (result < 10) }
+    requires { is_digit byte ≡ true }
+    ensures { (result ≡ digit_of byte) × (result < 10) }
 {
     (byte - b'0') as u32
 }

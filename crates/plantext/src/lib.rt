@@ -1,9 +1,9 @@
 // The plan's text: comma-separated rates to an accepted plan, or the refusal.
 ghost use Rattle.std.specs.Prelude.{◌≡◌, ◌*◌, ◌≤◌, length};
 ghost use Rattle.refusal.specs.Outcome.{outcome, written};
-ghost use Rattle.plan.specs.Range.{mostPorts};
-ghost use Rattle.plan.specs.Accept.{acceptOf};
-ghost use Rattle.plantext.specs.Read.{valuesIn, judgedOf, readTextOf};
+ghost use Rattle.plan.specs.Range.{most_ports};
+ghost use Rattle.plan.specs.Accept.{accept_of};
+ghost use Rattle.plantext.specs.Read.{values_in, judged_of, read_text_of};
 
 use crate::records::read_values;
 use plan::acceptance::accept;
@@ -21,7 +21,7 @@ pub const MOST_TEXT: usize = MOST_FLOWS * 7 + MOST_PORTS * (MOST_PORTS - 1) + MO
 // Writes the values to the list if they are an accepted plan, and answers whether they are.
 fn hand_over(n: usize, t: u32, values: &[u16], rates: &mut [u16]) -> Verdict
     requires { length rates.old ≡ length values.now }
-    ensures { outcome result rates.new ≡ written (acceptOf n t values.now) values.now rates.old }
+    ensures { outcome result rates.new ≡ written (accept_of n t values.now) values.now rates.old }
 {
     let verdict = accept(n, t, values);
     let Verdict::Accepted = verdict else {
@@ -34,8 +34,8 @@ fn hand_over(n: usize, t: u32, values: &[u16], rates: &mut [u16]) -> Verdict
 // The text's rules and then the sums, for N in range and a list for N ports. The values are kept apart until they are known
 // to be a plan, so that a refused call writes nothing.
 fn read_rates(n: usize, t: u32, text: &[u8], rates: &mut [u16]) -> Verdict
-    requires { (n ≤ mostPorts) × (length rates.old ≡ n * n) }
-    ensures { outcome result rates.new ≡ written (judgedOf n t text.now) (valuesIn n text.now) rates.old }
+    requires { (n ≤ most_ports) × (length rates.old ≡ n * n) }
+    ensures { outcome result rates.new ≡ written (judged_of n t text.now) (values_in n text.now) rates.old }
 {
     let mut values = [0u16; MOST_FLOWS];
     let flows = n * n;
@@ -48,7 +48,7 @@ fn read_rates(n: usize, t: u32, text: &[u8], rates: &mut [u16]) -> Verdict
 // Writes the rates of a text to the list, row by row, and answers whether it did: N, T, the list's length, the text's rules,
 // then the sums.
 pub fn read_text(n: usize, t: u32, text: &[u8], rates: &mut [u16]) -> Verdict
-    ensures { outcome result rates.new ≡ readTextOf n t text.now rates.old }
+    ensures { outcome result rates.new ≡ read_text_of n t text.now rates.old }
 {
     if !ports_in_range(n) {
         return Verdict::Refused(Refusal::PortsOutOfRange);

@@ -1,6 +1,6 @@
 // Records, and the text as a whole.
 ghost use Rattle.std.specs.Prelude.{[], ◌≡◌, ◌*◌, length, drop};
-ghost use Rattle.plantext.specs.Bytes.{comma, lineEnd};
+ghost use Rattle.plantext.specs.Bytes.{comma, line_end};
 ghost use Rattle.plantext.specs.Values as values;
 ghost use Rattle.plantext.specs.Place.{placed, found};
 
@@ -18,7 +18,7 @@ fn field_start(text: &[u8], at: usize, k: usize) -> Place
 
 // A record, one value to each place of the row.
 fn read_record(text: &[u8], from: usize, row: &mut [u16]) -> Place
-    ensures { placed text.now row.new result ≡ values.recordOf (length row.old) (drop from text.now) }
+    ensures { placed text.now row.new result ≡ values.record_of (length row.old) (drop from text.now) }
 {
     let mut at = from;
     for k in 0..row.len() {
@@ -36,7 +36,7 @@ fn read_record(text: &[u8], from: usize, row: &mut [u16]) -> Place
 
 // CR LF stands before each record but the first.
 fn record_start(text: &[u8], at: usize, k: usize) -> Place
-    ensures { placed text.now [] result ≡ values.skip (values.before lineEnd k) (drop at text.now) }
+    ensures { placed text.now [] result ≡ values.skip (values.before line_end k) (drop at text.now) }
 {
     if k == 0 {
         return Place::At(at);
@@ -47,7 +47,7 @@ fn record_start(text: &[u8], at: usize, k: usize) -> Place
 // The records of n inputs, a row of the list to each.
 fn read_records(text: &[u8], n: usize, list: &mut [u16]) -> Place
     requires { length list.old ≡ n * n }
-    ensures { placed text.now list.new result ≡ values.recordsOf n text.now }
+    ensures { placed text.now list.new result ≡ values.records_of n text.now }
 {
     let mut at = 0;
     for k in 0..n {

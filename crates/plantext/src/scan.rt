@@ -1,7 +1,7 @@
 // The rules of a text up to a field. Each function reads from the place `at` on, the number of a byte, and answers the place
 // behind what it took.
 ghost use Rattle.std.specs.Prelude.{[], ◌∷◌, ◌≡◌, drop};
-ghost use Rattle.plantext.specs.Bytes.{lineEnd};
+ghost use Rattle.plantext.specs.Bytes.{line_end};
 ghost use Rattle.plantext.specs.Values as values;
 ghost use Rattle.plantext.specs.Place.{placed, run_at, value_at};
 
@@ -47,7 +47,7 @@ pub fn skip(text: &[u8], at: usize, byte: u8) -> Place
 
 // CR LF.
 pub fn skip_line_end(text: &[u8], at: usize) -> Place
-    ensures { placed text.now [] result ≡ values.skip lineEnd (drop at text.now) }
+    ensures { placed text.now [] result ≡ values.skip line_end (drop at text.now) }
 {
     let Place::At(next) = skip(text, at, b'\r') else {
         return Place::Nowhere;
@@ -57,7 +57,7 @@ pub fn skip_line_end(text: &[u8], at: usize) -> Place
 
 // As many digits as there are, five at most.
 fn read_digits(text: &[u8], from: usize) -> Digits
-    ensures { run_at text.now result ≡ values.digitsFrom 5 0 0 (drop from text.now) }
+    ensures { run_at text.now result ≡ values.digits_from 5 0 0 (drop from text.now) }
 {
     let mut value: u32 = 0;
     let mut at = from;

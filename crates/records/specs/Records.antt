@@ -1,8 +1,8 @@
 -- The operations' answers as plain records: numbers stand in the place of cases. A verdict is its number by
--- `verdictNumberOf`, a port's kind its number by `kind_of`.
+-- `verdict_number_of`, a port's kind its number by `kind_of`.
 use Rattle.std.specs.Prelude.{ℕ, zero, suc, cond, List, eqb, set, replicate}
-use Rattle.refusal.specs.Number.{verdictNumberOf}
-use Rattle.plan.specs.Range.{mostPorts}
+use Rattle.refusal.specs.Number.{verdict_number_of}
+use Rattle.plan.specs.Range.{most_ports}
 use Rattle.planfile.specs.declared.Reading.{Reading}
 use Rattle.meter.specs.declared.Measured.{Measured}
 use Rattle.multiplexer.specs.declared.Choice.{Choice}
@@ -33,48 +33,48 @@ cell_of answer.Idle = 0
 cell_of (answer.Empty other) = 0
 cell_of (answer.Moved other cell) = cell
 
-abbrev pub answerRecord : Answer → PortRecord
-answerRecord a = record { kind = kind_of a; other = other_of a; cell = cell_of a }
+abbrev pub answer_record : Answer → PortRecord
+answer_record a = record { kind = kind_of a; other = other_of a; cell = cell_of a }
 
 -- the records of the ports below m; those from m up are idle
-unfoldable pub recordsBelow : List Port → ℕ → List PortRecord
-recordsBelow ports zero = replicate mostPorts (answerRecord answer.Idle)
-recordsBelow ports (suc m) = set (recordsBelow ports m) m (answerRecord (answer_of ports m))
+unfoldable pub records_below : List Port → ℕ → List PortRecord
+records_below ports zero = replicate most_ports (answer_record answer.Idle)
+records_below ports (suc m) = set (records_below ports m) m (answer_record (answer_of ports m))
 
-abbrev pub portRecords : List Port → List PortRecord
-portRecords ports = recordsBelow ports mostPorts
+abbrev pub port_records : List Port → List PortRecord
+port_records ports = records_below ports most_ports
 
 -- "With none eligible the port idles": the number of each case of a choice
-abbrev pub choiceKindOf : Choice → ℕ
-choiceKindOf Idle = 0
-choiceKindOf (Flow f) = 1
+abbrev pub choice_kind_of : Choice → ℕ
+choice_kind_of Idle = 0
+choice_kind_of (Flow f) = 1
 
 -- the flow, 0 where a choice has none
-abbrev pub flowIn : Choice → ℕ
-flowIn Idle = 0
-flowIn (Flow f) = f
+abbrev pub flow_in : Choice → ℕ
+flow_in Idle = 0
+flow_in (Flow f) = f
 
-abbrev pub choiceRecord : Choice → ChoiceRecord
-choiceRecord c = record { kind = choiceKindOf c; flow = flowIn c }
+abbrev pub choice_record : Choice → ChoiceRecord
+choice_record c = record { kind = choice_kind_of c; flow = flow_in c }
 
 -- the choice that a caller hands over: every kind but that of `Idle` is a flow
-abbrev pub choiceIn : ChoiceRecord → Choice
-choiceIn c = cond (eqb c.kind (choiceKindOf Idle)) Idle (Flow c.flow)
+abbrev pub choice_in : ChoiceRecord → Choice
+choice_in c = cond (eqb c.kind (choice_kind_of Idle)) Idle (Flow c.flow)
 
-abbrev pub replyRecord : Reply → ReplyRecord
-replyRecord r = record { verdict = verdictNumberOf r.verdict; state = r.state }
+abbrev pub reply_record : Reply → ReplyRecord
+reply_record r = record { verdict = verdict_number_of r.verdict; state = r.state }
 
-abbrev pub slotRecord : SlotReply → SlotRecord
-slotRecord r =
+abbrev pub slot_record : SlotReply → SlotRecord
+slot_record r =
     record {
-      verdict = verdictNumberOf r.verdict;
+      verdict = verdict_number_of r.verdict;
       state = r.state;
-      moves = portRecords r.moves;
-      sends = portRecords r.sends;
+      moves = port_records r.moves;
+      sends = port_records r.sends;
     }
 
-abbrev pub readingRecord : Reading → ReadingRecord
-readingRecord r = record { verdict = verdictNumberOf r.verdict; plan = r.plan }
+abbrev pub reading_record : Reading → ReadingRecord
+reading_record r = record { verdict = verdict_number_of r.verdict; plan = r.plan }
 
-abbrev pub coverRecord : Measured → CoverRecord
-coverRecord r = record { verdict = verdictNumberOf r.verdict; least = r.least; most = r.most }
+abbrev pub cover_record : Measured → CoverRecord
+cover_record r = record { verdict = verdict_number_of r.verdict; least = r.least; most = r.most }

@@ -1,9 +1,9 @@
 // What the exported functions of gambyre answer: the operations' answers with numbers in the place of their cases. Verdicts and
 // kinds are enums in the header, and an enum of C has 32 bits.
 ghost use Rattle.std.specs.Prelude.{◌≡◌};
-ghost use Rattle.refusal.specs.Number.{verdictNumberOf};
+ghost use Rattle.refusal.specs.Number.{verdict_number_of};
 ghost use Rattle.fabric.specs.Answer.{kind_of};
-ghost use Rattle.records.specs.Records.{other_of, cell_of, answerRecord, portRecords, choiceRecord, choiceIn, replyRecord, slotRecord, readingRecord, coverRecord};
+ghost use Rattle.records.specs.Records.{other_of, cell_of, answer_record, port_records, choice_record, choice_in, reply_record, slot_record, reading_record, cover_record};
 
 use crossbar::state::{Reply, SlotReply, Switch};
 use fabric::flow::{Answer, Port};
@@ -75,7 +75,7 @@ pub struct CoverRecord {
 }
 
 pub fn verdict_number(verdict: Verdict) -> u32
-    ensures { result ≡ verdictNumberOf verdict }
+    ensures { result ≡ verdict_number_of verdict }
 {
     verdict.number() as u32
 }
@@ -112,7 +112,7 @@ fn cell_of(answer: Answer) -> u32
 
 // Field by field: a processor need not foresee which kind comes.
 fn port_record(port: Port) -> PortRecord
-    ensures { result ≡ answerRecord port.answer }
+    ensures { result ≡ answer_record port.answer }
 {
     let answer = port.answer;
     PortRecord {
@@ -123,7 +123,7 @@ fn port_record(port: Port) -> PortRecord
 }
 
 fn port_records(ports: [Port; MOST_PORTS]) -> [PortRecord; MOST_PORTS]
-    ensures { result ≡ portRecords ports }
+    ensures { result ≡ port_records ports }
 {
     let mut records = [PortRecord {
         kind: IDLE,
@@ -139,7 +139,7 @@ fn port_records(ports: [Port; MOST_PORTS]) -> [PortRecord; MOST_PORTS]
 }
 
 pub fn choice_record(choice: Choice) -> ChoiceRecord
-    ensures { result ≡ choiceRecord choice }
+    ensures { result ≡ choice_record choice }
 {
     match choice {
         Choice::Idle => ChoiceRecord {
@@ -152,7 +152,7 @@ pub fn choice_record(choice: Choice) -> ChoiceRecord
 
 // The choice that a caller hands over; every kind but NO_FLOW is a flow.
 pub fn choice_in(choice: ChoiceRecord) -> Choice
-    ensures { result ≡ choiceIn choice }
+    ensures { result ≡ choice_in choice }
 {
     if choice.kind == NO_FLOW {
         return Choice::Idle;
@@ -161,7 +161,7 @@ pub fn choice_in(choice: ChoiceRecord) -> Choice
 }
 
 pub fn reply_record(reply: Reply) -> ReplyRecord
-    ensures { result ≡ replyRecord reply }
+    ensures { result ≡ reply_record reply }
 {
     let verdict = reply.verdict;
     let state = reply.state;
@@ -172,7 +172,7 @@ pub fn reply_record(reply: Reply) -> ReplyRecord
 }
 
 pub fn slot_record(reply: SlotReply) -> SlotRecord
-    ensures { result ≡ slotRecord reply }
+    ensures { result ≡ slot_record reply }
 {
     let verdict = reply.verdict;
     let state = reply.state;
@@ -187,7 +187,7 @@ pub fn slot_record(reply: SlotReply) -> SlotRecord
 }
 
 pub fn reading_record(reading: Reading) -> ReadingRecord
-    ensures { result ≡ readingRecord reading }
+    ensures { result ≡ reading_record reading }
 {
     let verdict = reading.verdict;
     let plan = reading.plan;
@@ -198,7 +198,7 @@ pub fn reading_record(reading: Reading) -> ReadingRecord
 }
 
 pub fn cover_record(measured: Measured) -> CoverRecord
-    ensures { result ≡ coverRecord measured }
+    ensures { result ≡ cover_record measured }
 {
     let verdict = measured.verdict;
     let least = measured.least;

@@ -3,23 +3,23 @@ use Prim.Native.Nat.{ℕ}
 use mathlib.Core.Path.{◌≡◌, refl}
 use mathlib.Core.Bool.{Bool, true, false}
 use native.Mathlib.Omega.{arith}
-use Rattle.refusal.specs.Chain.{refuseIf, and_then}
+use Rattle.refusal.specs.Chain.{refuse_if, and_then}
 use Rattle.refusal.specs.declared.Refusal.{Refusal}
 use Rattle.refusal.specs.declared.Verdict.{Verdict}
 use Rattle.refusal.specs.declared.Verdict.TheVariants.{Accepted, Refused}
 
-pub refused-not-accepted : (r : Refusal) → Refused r ≡ Accepted → ⊥
-refused-not-accepted r e = let z : ◌≡◌ {A = ℕ} 0 1 = cc in omega arith
+pub refused_not_accepted : (r : Refusal) → Refused r ≡ Accepted → ⊥
+refused_not_accepted r e = let z : ◌≡◌ {A = ℕ} 0 1 = cc in omega arith
 
-pub refuse-passed : (b : Bool) (r : Refusal) (rest : Verdict) → refuseIf b r rest ≡ Accepted → (b ≡ false) × (rest ≡ Accepted)
-refuse-passed true r rest e = absurd (refused-not-accepted r e)
-refuse-passed false r rest e = (refl, e)
+pub refuse_passed : (b : Bool) (r : Refusal) (rest : Verdict) → refuse_if b r rest ≡ Accepted → (b ≡ false) × (rest ≡ Accepted)
+refuse_passed true r rest e = absurd (refused_not_accepted r e)
+refuse_passed false r rest e = (refl, e)
 
-pub then-passed : (v rest : Verdict) → and_then v rest ≡ Accepted → (v ≡ Accepted) × (rest ≡ Accepted)
-then-passed Accepted rest e = (refl, e)
-then-passed (Refused r) rest e = absurd (refused-not-accepted r e)
+pub then_passed : (v rest : Verdict) → and_then v rest ≡ Accepted → (v ≡ Accepted) × (rest ≡ Accepted)
+then_passed Accepted rest e = (refl, e)
+then_passed (Refused r) rest e = absurd (refused_not_accepted r e)
 
 -- two orders that begin with the same condition, and go on alike where it doesn't hold
-pub refuse-ext : (b : Bool) (r : Refusal) {v w : Verdict} → (b ≡ false → v ≡ w) → refuseIf b r v ≡ refuseIf b r w
-refuse-ext true r h = refl
-refuse-ext false r h = h refl
+pub refuse_ext : (b : Bool) (r : Refusal) {v w : Verdict} → (b ≡ false → v ≡ w) → refuse_if b r v ≡ refuse_if b r w
+refuse_ext true r h = refl
+refuse_ext false r h = h refl

@@ -5,7 +5,7 @@ use mathlib.Core.Bool.{cond}
 use mathlib.Core.List.{List, [], ◌∷◌}
 use native.Mathlib.Omega.{arith}
 use lib.Dec.{eqb}
-use Rattle.refusal.specs.Number.{retired, verdictNumberOf}
+use Rattle.refusal.specs.Number.{retired, verdict_number_of}
 use Rattle.refusal.specs.declared.Refusal.TheVariants.{PortsOutOfRange, FrameOutOfRange, ListLength, RowAboveFrame, ColumnAboveFrame, DepthOutOfRange, StoreLength, PlanMismatch, NoSuchPort, QueueFull, StateInvalid, CrosspointFull, NotPlanFile, FileLength, NotPlanText, RecordLength}
 use Rattle.refusal.specs.declared.Verdict.{Verdict}
 use Rattle.refusal.specs.declared.Verdict.TheVariants.{Accepted, Refused}
@@ -18,36 +18,36 @@ verdicts =
     ∷ Refused CrosspointFull ∷ Refused NotPlanFile ∷ Refused FileLength ∷ Refused NotPlanText ∷ Refused RecordLength ∷ []
 
 -- the first of them that has number k; where none has it, `Accepted`
-abbrev firstWith : ℕ → List Verdict → Verdict
-firstWith k [] = Accepted
-firstWith k (v ∷ vs) = cond (eqb (verdictNumberOf v) k) v (firstWith k vs)
+abbrev first_with : ℕ → List Verdict → Verdict
+first_with k [] = Accepted
+first_with k (v ∷ vs) = cond (eqb (verdict_number_of v) k) v (first_with k vs)
 
 -- no verdict before it shares its number
-is-first : (v : Verdict) → firstWith (verdictNumberOf v) verdicts ≡ v
-is-first Accepted = refl
-is-first (Refused PortsOutOfRange) = refl
-is-first (Refused FrameOutOfRange) = refl
-is-first (Refused ListLength) = refl
-is-first (Refused RowAboveFrame) = refl
-is-first (Refused ColumnAboveFrame) = refl
-is-first (Refused DepthOutOfRange) = refl
-is-first (Refused StoreLength) = refl
-is-first (Refused PlanMismatch) = refl
-is-first (Refused NoSuchPort) = refl
-is-first (Refused QueueFull) = refl
-is-first (Refused StateInvalid) = refl
-is-first (Refused CrosspointFull) = refl
-is-first (Refused NotPlanFile) = refl
-is-first (Refused FileLength) = refl
-is-first (Refused NotPlanText) = refl
-is-first (Refused RecordLength) = refl
+is_first : (v : Verdict) → first_with (verdict_number_of v) verdicts ≡ v
+is_first Accepted = refl
+is_first (Refused PortsOutOfRange) = refl
+is_first (Refused FrameOutOfRange) = refl
+is_first (Refused ListLength) = refl
+is_first (Refused RowAboveFrame) = refl
+is_first (Refused ColumnAboveFrame) = refl
+is_first (Refused DepthOutOfRange) = refl
+is_first (Refused StoreLength) = refl
+is_first (Refused PlanMismatch) = refl
+is_first (Refused NoSuchPort) = refl
+is_first (Refused QueueFull) = refl
+is_first (Refused StateInvalid) = refl
+is_first (Refused CrosspointFull) = refl
+is_first (Refused NotPlanFile) = refl
+is_first (Refused FileLength) = refl
+is_first (Refused NotPlanText) = refl
+is_first (Refused RecordLength) = refl
 
-by_number : (v : Verdict) {k : ℕ} → verdictNumberOf v ≡ k → v ≡ firstWith k verdicts
-by_number v e = sym (is-first v) ∙ ap (λ (k : ℕ). firstWith k verdicts) e
+by_number : (v : Verdict) {k : ℕ} → verdict_number_of v ≡ k → v ≡ first_with k verdicts
+by_number v e = sym (is_first v) ∙ ap (λ (k : ℕ). first_with k verdicts) e
 
-pub number-names-one : (v w : Verdict) → verdictNumberOf v ≡ verdictNumberOf w → v ≡ w
-number-names-one v w e = by_number v e ∙ is-first w
+pub number_names_one : (v w : Verdict) → verdict_number_of v ≡ verdict_number_of w → v ≡ w
+number_names_one v w e = by_number v e ∙ is_first w
 
 -- no call can give the retired number
-pub retired-never : (v : Verdict) → verdictNumberOf v ≡ retired → ⊥
-retired-never v e = let zero = ap verdictNumberOf (by_number v e) in omega (arith, e)
+pub retired_never : (v : Verdict) → verdict_number_of v ≡ retired → ⊥
+retired_never v e = let zero = ap verdict_number_of (by_number v e) in omega (arith, e)

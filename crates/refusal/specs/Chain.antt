@@ -6,9 +6,9 @@ use Rattle.refusal.specs.declared.Verdict.{Verdict}
 use Rattle.refusal.specs.declared.Verdict.TheVariants.{Accepted, Refused}
 
 -- refused under a condition, and otherwise as the rest of the order says
-abbrev pub refuseIf : Bool → Refusal → Verdict → Verdict
-refuseIf true r rest = Refused r
-refuseIf false r rest = rest
+abbrev pub refuse_if : Bool → Refusal → Verdict → Verdict
+refuse_if true r rest = Refused r
+refuse_if false r rest = rest
 
 -- the first verdict, if it is a refusal, and otherwise the second
 abbrev pub and_then : Verdict → Verdict → Verdict
@@ -16,6 +16,6 @@ and_then Accepted rest = rest
 and_then (Refused r) rest = Refused r
 
 -- the first value where the call was accepted, and the second where it was refused
-abbrev pub ifAccepted : {A : Type 0} → Verdict → A → A → A
-ifAccepted Accepted x y = x
-ifAccepted (Refused r) x y = y
+abbrev pub if_accepted : {A : Type 0} → Verdict → A → A → A
+if_accepted Accepted x y = x
+if_accepted (Refused r) x y = y

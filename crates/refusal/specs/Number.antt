@@ -29,6 +29,6 @@ abbrev pub retired : ℕ
 retired = 9
 
 -- A verdict's number is its refusal's; 0, which the table leaves free, stands for "accepted".
-abbrev pub verdictNumberOf : Verdict → ℕ
-verdictNumberOf Accepted = 0
-verdictNumberOf (Refused r) = number_of r
+abbrev pub verdict_number_of : Verdict → ℕ
+verdict_number_of Accepted = 0
+verdict_number_of (Refused r) = number_of r

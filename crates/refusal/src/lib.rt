@@ -1,6 +1,6 @@
 // Why a call is refused, and the verdict of a call.
 ghost use Rattle.std.specs.Prelude.{◌≡◌};
-ghost use Rattle.refusal.specs.Number.{number_of, verdictNumberOf};
+ghost use Rattle.refusal.specs.Number.{number_of, verdict_number_of};
 
 // A case for each row of the scope's table "What is sent back", and for each number that a change request adds. Row 9 has none:
 // since request L5 a load is accepted while a plan waits.
@@ -76,7 +76,7 @@ impl Refusal {
 impl Verdict {
     // The number of the refusal, or 0 for a call that was accepted.
     pub fn number(self) -> u8
-        ensures { result ≡ verdictNumberOf self }
+        ensures { result ≡ verdict_number_of self }
     {
         match self {
             Verdict::Accepted => 0,

@@ -6,109 +6,109 @@ use mathlib.Core.List.{List}
 use mathlib.Core.Logic.{inl, inr, ⊎_elim}
 use native.Mathlib.Omega.{arith}
 use native.Mathlib.Numerals.{add-one}
-use Rattle.plan.specs.Lines.{rowSum, column_sum}
+use Rattle.plan.specs.Lines.{row_sum, column_sum}
 use Rattle.plan.specs.Accept.{IsPlan}
-use Rattle.plan.proofs.BelowLaws.{below-or-last}
+use Rattle.plan.proofs.BelowLaws.{below_or_last}
 use Rattle.plan.proofs.AcceptLaws.{accepted, accepts}
-use Rattle.regulator.specs.Boost.{columnOn, boostDiagonal, diagonalIn, boostDiagonals, boostedOf, boostOf, BoostedPlan}
-use Rattle.regulator.proofs.SumLaws.{pairs-full}
+use Rattle.regulator.specs.Boost.{column_on, boost_diagonal, diagonal_in, boost_diagonals, boosted_of, boost_of, BoostedPlan}
+use Rattle.regulator.proofs.SumLaws.{pairs_full}
 use Rattle.regulator.proofs.FlowLaws.{same_total}
-use Rattle.regulator.proofs.DiagonalLaws.{column-below, diagonalOf, diagonal-below, on-diagonal}
-use Rattle.regulator.proofs.PlaceLaws.{Rises, rises-same, rises-then, Full, full-stays, place-rises, place-full}
-use Rattle.regulator.proofs.PeriodLaws.{turn_of, turn_below, in-turn}
-use Rattle.regulator.proofs.VerdictLaws.{boost-done}
+use Rattle.regulator.proofs.DiagonalLaws.{column_below, diagonal_of, diagonal_below, on_diagonal}
+use Rattle.regulator.proofs.PlaceLaws.{Rises, rises_same, rises_then, Full, full_stays, place-rises, place-full}
+use Rattle.regulator.proofs.PeriodLaws.{turn_of, turn_below, in_turn}
+use Rattle.regulator.proofs.VerdictLaws.{boost_done}
 
 -- One diagonal.
 
 module _ (n t k : ℕ) (l : List ℕ) (p : IsPlan n t l) where
   abbrev up_to : ℕ → List ℕ
-  up_to m = boostDiagonal n t k l m
+  up_to m = boost_diagonal n t k l m
 
-  pub diagonal-rises : (m : ℕ) → m ≤ n → Rises n t l (boostDiagonal n t k l m)
-  unfolding boostDiagonal
-  diagonal-rises zero h = rises-same n t l p
+  pub diagonal-rises : (m : ℕ) → m ≤ n → Rises n t l (boost_diagonal n t k l m)
+  unfolding boost_diagonal
+  diagonal-rises zero h = rises_same n t l p
   diagonal-rises (suc i) h =
       let before = diagonal-rises i (omega arith) in
-      rises-then n t l (up_to i) _ before (place-rises n t (up_to i) i (columnOn n k i) before.plan (omega arith) (column-below n k i p.some-port))
+      rises_then n t l (up_to i) _ before (place-rises n t (up_to i) i (column_on n k i) before.plan (omega arith) (column_below n k i p.some_port))
 
-  diagonal-full : (m i : ℕ) → m ≤ n → i < m → Full n t (boostDiagonal n t k l m) i (columnOn n k i)
-  unfolding boostDiagonal
+  diagonal-full : (m i : ℕ) → m ≤ n → i < m → Full n t (boost_diagonal n t k l m) i (column_on n k i)
+  unfolding boost_diagonal
   diagonal-full zero i h b = absurd (omega arith)
   diagonal-full (suc m) i h b =
       let before = (diagonal-rises m (omega arith)).plan in
-      let column = column-below n k m p.some-port in
+      let column = column_below n k m p.some_port in
       ⊎_elim
       (λ (e : i < m).
-      full-stays n t (up_to m) _ i (columnOn n k i) (place-rises n t (up_to m) m (columnOn n k m) before (omega arith) column)
-      (omega arith) (column-below n k i p.some-port) (diagonal-full m i (omega arith) e))
-      (λ (e : i ≡ m). rw e (place-full n t (up_to m) m (columnOn n k m) before (omega arith) column))
-      (below-or-last i m b)
+      full_stays n t (up_to m) _ i (column_on n k i) (place-rises n t (up_to m) m (column_on n k m) before (omega arith) column)
+      (omega arith) (column_below n k i p.some_port) (diagonal-full m i (omega arith) e))
+      (λ (e : i ≡ m). rw e (place-full n t (up_to m) m (column_on n k m) before (omega arith) column))
+      (below_or_last i m b)
 
 -- All diagonals, in any order.
 
 -- one turn of the code's loop over them
-pub diagonal-turn : (n t : ℕ) (order : ℕ → ℕ) (k d : ℕ) (given l m : List ℕ) → IsPlan n t l → l ≡ boostDiagonals n t order given k → d ≡ order k
-    → m ≡ boostDiagonal n t d l n → IsPlan n t m × (m ≡ boostDiagonals n t order given (k + 1))
-unfolding boostDiagonals
-diagonal-turn n t order k d given l m p e ed em = (rw em (diagonal-rises n t d l p n (omega arith)).plan, rw (em, ed, add-one, e))
+pub diagonal_turn : (n t : ℕ) (order : ℕ → ℕ) (k d : ℕ) (given l m : List ℕ) → IsPlan n t l → l ≡ boost_diagonals n t order given k → d ≡ order k
+    → m ≡ boost_diagonal n t d l n → IsPlan n t m × (m ≡ boost_diagonals n t order given (k + 1))
+unfolding boost_diagonals
+diagonal_turn n t order k d given l m p e ed em = (rw em (diagonal-rises n t d l p n (omega arith)).plan, rw (em, ed, add-one, e))
 
 module _ (n t : ℕ) (order : ℕ → ℕ) (l : List ℕ) (p : IsPlan n t l) where
   abbrev after : ℕ → List ℕ
-  after m = boostDiagonals n t order l m
+  after m = boost_diagonals n t order l m
 
-  pub diagonals-rise : (m : ℕ) → Rises n t l (boostDiagonals n t order l m)
-  unfolding boostDiagonals
-  diagonals-rise zero = rises-same n t l p
+  pub diagonals-rise : (m : ℕ) → Rises n t l (boost_diagonals n t order l m)
+  unfolding boost_diagonals
+  diagonals-rise zero = rises_same n t l p
   diagonals-rise (suc k) =
       let before = diagonals-rise k in
-      rises-then n t l (after k) _ before (diagonal-rises n t (order k) (after k) before.plan n (omega arith))
+      rises_then n t l (after k) _ before (diagonal-rises n t (order k) (after k) before.plan n (omega arith))
 
-  diagonals-full : (m k i : ℕ) → k < m → i < n → Full n t (boostDiagonals n t order l m) i (columnOn n (order k) i)
-  unfolding boostDiagonals
+  diagonals-full : (m k i : ℕ) → k < m → i < n → Full n t (boost_diagonals n t order l m) i (column_on n (order k) i)
+  unfolding boost_diagonals
   diagonals-full zero k i b hi = absurd (omega arith)
   diagonals-full (suc m) k i b hi =
       let before = (diagonals-rise m).plan in
       ⊎_elim
       (λ (e : k < m).
-      full-stays n t (after m) _ i (columnOn n (order k) i) (diagonal-rises n t (order m) (after m) before n (omega arith))
-      hi (column-below n (order k) i p.some-port) (diagonals-full m k i e hi))
+      full_stays n t (after m) _ i (column_on n (order k) i) (diagonal-rises n t (order m) (after m) before n (omega arith))
+      hi (column_below n (order k) i p.some_port) (diagonals-full m k i e hi))
       (λ (e : k ≡ m). rw e (diagonal-full n t (order m) (after m) before n i (omega arith) hi))
-      (below-or-last k m b)
+      (below_or_last k m b)
 
 -- In a period.
 
 module _ (n t period : ℕ) (l : List ℕ) (p : IsPlan n t l) where
   abbrev boosted : List ℕ
-  boosted = boostedOf n t period l
+  boosted = boosted_of n t period l
 
-  pub boosted-rises : Rises n t l (boostedOf n t period l)
-  unfolding boostedOf
-  boosted-rises = diagonals-rise n t (diagonalIn n period) l p n
+  pub boosted-rises : Rises n t l (boosted_of n t period l)
+  unfolding boosted_of
+  boosted-rises = diagonals-rise n t (diagonal_in n period) l p n
 
-  boosted-full : (i j : ℕ) → i < n → j < n → Full n t (boostedOf n t period l) i j
-  unfolding boostedOf
+  boosted-full : (i j : ℕ) → i < n → j < n → Full n t (boosted_of n t period l) i j
+  unfolding boosted_of
   boosted-full i j hi hj =
-      let d = diagonalOf n i j in
-      rw (in-turn n period d (diagonal-below n i j hi), on-diagonal n i j hi hj)
-      at (diagonals-full n t (diagonalIn n period) l p n (turn_of n period d) i (turn_below n period d p.some-port) hi)
+      let d = diagonal_of n i j in
+      rw (in_turn n period d (diagonal_below n i j hi), on_diagonal n i j hi hj)
+      at (diagonals-full n t (diagonal_in n period) l p n (turn_of n period d) i (turn_below n period d p.some_port) hi)
 
-  boosted-row : (i : ℕ) → i < n → rowSum (boostedOf n t period l) n i ≡ t
-  boosted-row = pairs-full (rowSum boosted n) (column_sum boosted n) n t (same_total boosted n) boosted-rises.plan.rows boosted-full
+  boosted-row : (i : ℕ) → i < n → row_sum (boosted_of n t period l) n i ≡ t
+  boosted-row = pairs_full (row_sum boosted n) (column_sum boosted n) n t (same_total boosted n) boosted-rises.plan.rows boosted-full
 
-  boosted-column : (j : ℕ) → j < n → column_sum (boostedOf n t period l) n j ≡ t
+  boosted-column : (j : ℕ) → j < n → column_sum (boosted_of n t period l) n j ≡ t
   boosted-column =
-      pairs-full (column_sum boosted n) (rowSum boosted n) n t (sym (same_total boosted n)) boosted-rises.plan.columns
+      pairs_full (column_sum boosted n) (row_sum boosted n) n t (sym (same_total boosted n)) boosted-rises.plan.columns
       (λ j i hj hi. ⊎_elim inr inl (boosted-full i j hi hj))
 
-pub boosted-plan : BoostedPlan
-unfolding boostOf
-boosted-plan n t period given rates e h =
+pub boosted_plan : BoostedPlan
+unfolding boost_of
+boosted_plan n t period given rates e h =
     let p = accepted n t given e in
-    let v = boost-done n t given rates e h in
+    let v = boost_done n t given rates e h in
     record {
       done = v;
       rows = rw v (boosted-row n t period given p);
       columns = rw v (boosted-column n t period given p);
-      plan = rw v (accepts n t (boostedOf n t period given) (boosted-rises n t period given p).plan);
+      plan = rw v (accepts n t (boosted_of n t period given) (boosted-rises n t period given p).plan);
       above = rw v (boosted-rises n t period given p).above;
     }

@@ -5,45 +5,45 @@ use mathlib.Core.Path.{◌≡◌}
 use mathlib.Core.Bool.{not, ◌&&◌}
 use lib.Dec.{eqb}
 use borrow.Author.Tests.{eqb-true, eq-eqb, not-false}
-use Rattle.refusal.proofs.ChainLaws.{refuse-passed}
+use Rattle.refusal.proofs.ChainLaws.{refuse_passed}
 use Rattle.refusal.specs.declared.Refusal.{Refusal}
 use Rattle.refusal.specs.declared.Verdict.{Verdict}
 use Rattle.refusal.specs.declared.Verdict.TheVariants.{Accepted, Refused}
-use Rattle.plan.specs.Range.{portsInRange, frameInRange}
-use Rattle.plan.proofs.BelowLaws.{and-true}
-use Rattle.plan.proofs.RangeLaws.{ports-range, frame-range, ports-in, frame-in}
+use Rattle.plan.specs.Range.{ports_in_range, frame_in_range}
+use Rattle.plan.proofs.BelowLaws.{and_true}
+use Rattle.plan.proofs.RangeLaws.{ports_range, frame_range, ports_in_lem, frame_in_lem}
 use Rattle.regulator.specs.Outcome.{outcome, written, lists_of, Checked}
 
-pub lists-passed : (n t from to : ℕ) → lists_of n t from to ≡ Accepted → Checked n t from to
+pub lists_passed : (n t from to : ℕ) → lists_of n t from to ≡ Accepted → Checked n t from to
 unfolding lists_of
-lists-passed n t from to e =
-    let first = refuse-passed (not (portsInRange n)) _ _ e in
-    let second = refuse-passed (not (frameInRange t)) _ _ first.1 in
-    let third = refuse-passed (not (eqb from (n * n) && eqb to (n * n))) _ _ second.1 in
-    let ports = ports-range n (not-false _ first.0) in
-    let frame = frame-range t (not-false _ second.0) in
-    let lengths = and-true (eqb from (n * n)) (eqb to (n * n)) (not-false _ third.0) in
+lists_passed n t from to e =
+    let first = refuse_passed (not (ports_in_range n)) _ _ e in
+    let second = refuse_passed (not (frame_in_range t)) _ _ first.1 in
+    let third = refuse_passed (not (eqb from (n * n) && eqb to (n * n))) _ _ second.1 in
+    let ports = ports_range n (not-false _ first.0) in
+    let frame = frame_range t (not-false _ second.0) in
+    let lengths = and_true (eqb from (n * n)) (eqb to (n * n)) (not-false _ third.0) in
     record {
-      some-port = ports.0;
-      few-ports = ports.1;
-      some-slot = frame.0;
-      few-slots = frame.1;
-      from-square = eqb-true from (n * n) lengths.0;
-      to-square = eqb-true to (n * n) lengths.1;
+      some_port = ports.0;
+      few_ports = ports.1;
+      some_slot = frame.0;
+      few_slots = frame.1;
+      from_square = eqb-true from (n * n) lengths.0;
+      to_square = eqb-true to (n * n) lengths.1;
     }
 
-pub lists-pass : (n t from to : ℕ) → Checked n t from to → lists_of n t from to ≡ Accepted
+pub lists_pass : (n t from to : ℕ) → Checked n t from to → lists_of n t from to ≡ Accepted
 unfolding lists_of
-lists-pass n t from to h =
+lists_pass n t from to h =
     simp (
-      ports-in n h.some-port h.few-ports,
-      frame-in t h.some-slot h.few-slots,
-      eq-eqb from (n * n) h.from-square,
-      eq-eqb to (n * n) h.to-square,
+      ports_in_lem n h.some_port h.few_ports,
+      frame_in_lem t h.some_slot h.few_slots,
+      eq-eqb from (n * n) h.from_square,
+      eq-eqb to (n * n) h.to_square,
     )
 
-pub refused-outcome : (verdict : Verdict) (r : Refusal) (result before : List ℕ) → verdict ≡ Refused r → outcome (Refused r) before ≡ written verdict result before
-refused-outcome verdict r result before e = rw e
+pub refused_outcome : (verdict : Verdict) (r : Refusal) (result before : List ℕ) → verdict ≡ Refused r → outcome (Refused r) before ≡ written verdict result before
+refused_outcome verdict r result before e = rw e
 
-pub done-outcome : (verdict : Verdict) (result before : List ℕ) → verdict ≡ Accepted → outcome Accepted result ≡ written verdict result before
-done-outcome verdict result before e = rw e
+pub done_outcome : (verdict : Verdict) (result before : List ℕ) → verdict ≡ Accepted → outcome Accepted result ≡ written verdict result before
+done_outcome verdict result before e = rw e

@@ -5,59 +5,59 @@ use mathlib.Core.Bool.{not}
 use mathlib.Core.List.{List}
 use lib.Dec.{leb}
 use lib.ListN.{length, get_or}
-use Rattle.refusal.specs.Chain.{refuseIf}
-use Rattle.refusal.proofs.ChainLaws.{then-passed}
+use Rattle.refusal.specs.Chain.{refuse_if}
+use Rattle.refusal.proofs.ChainLaws.{then_passed}
 use Rattle.refusal.specs.declared.Refusal.{Refusal}
 use Rattle.refusal.specs.declared.Refusal.TheVariants.{RowAboveFrame, ColumnAboveFrame}
 use Rattle.refusal.specs.declared.Verdict.TheVariants.{Accepted, Refused}
-use Rattle.plan.specs.Lines.{rowSum, column_sum}
-use Rattle.plan.specs.Accept.{withinFrame, acceptOf}
-use Rattle.plan.proofs.BelowLaws.{all-ext}
-use Rattle.plan.proofs.RangeLaws.{ports-in, frame-in}
-use Rattle.plan.proofs.AcceptLaws.{accepted, sums-decide}
+use Rattle.plan.specs.Lines.{row_sum, column_sum}
+use Rattle.plan.specs.Accept.{within_frame, accept_of}
+use Rattle.plan.proofs.BelowLaws.{all_ext}
+use Rattle.plan.proofs.RangeLaws.{ports_in_lem, frame_in_lem}
+use Rattle.plan.proofs.AcceptLaws.{accepted, sums_decide}
 use Rattle.regulator.specs.Outcome.{lists_of}
 use Rattle.regulator.specs.Sums.{LineSums}
-use Rattle.regulator.specs.Boost.{boostVerdict}
-use Rattle.regulator.proofs.OutcomeLaws.{lists-passed, lists-pass}
+use Rattle.regulator.specs.Boost.{boost_verdict}
+use Rattle.regulator.proofs.OutcomeLaws.{lists_passed, lists_pass}
 
 -- the verdict where the first checks refuse, and where they pass, from the kept sums
 
-pub lists-refused : (n t : ℕ) (given rates : List ℕ) (r : Refusal) → lists_of n t (length given) (length rates) ≡ Refused r → boostVerdict n t given rates ≡ Refused r
-unfolding boostVerdict
-lists-refused n t given rates r e = rw e
+pub lists_refused : (n t : ℕ) (given rates : List ℕ) (r : Refusal) → lists_of n t (length given) (length rates) ≡ Refused r → boost_verdict n t given rates ≡ Refused r
+unfolding boost_verdict
+lists_refused n t given rates r e = rw e
 
-pub sums-verdict : (n t : ℕ) (given rates rows columns : List ℕ) → lists_of n t (length given) (length rates) ≡ Accepted → LineSums given n rows columns
-    → boostVerdict n t given rates
-    ≡ refuseIf (not (withinFrame (λ k. get_or rows k 0) n t)) RowAboveFrame (refuseIf (not (withinFrame (λ k. get_or columns k 0) n t)) ColumnAboveFrame Accepted)
-unfolding boostVerdict
-sums-verdict n t given rates rows columns e s =
-    let h = lists-passed n t (length given) (length rates) e in
+pub sums_verdict : (n t : ℕ) (given rates rows columns : List ℕ) → lists_of n t (length given) (length rates) ≡ Accepted → LineSums given n rows columns
+    → boost_verdict n t given rates
+    ≡ refuse_if (not (within_frame (λ k. get_or rows k 0) n t)) RowAboveFrame (refuse_if (not (within_frame (λ k. get_or columns k 0) n t)) ColumnAboveFrame Accepted)
+unfolding boost_verdict
+sums_verdict n t given rates rows columns e s =
+    let h = lists_passed n t (length given) (length rates) e in
     simp (
       e,
-      sums-decide n t given (ports-in n h.some-port h.few-ports) (frame-in t h.some-slot h.few-slots) h.from-square,
-      all-ext (λ k. leb (get_or rows k 0) t) (λ k. leb (rowSum given n k) t) n (λ k b. ap (λ (x : ℕ). leb x t) (s.row k b)),
-      all-ext (λ k. leb (get_or columns k 0) t) (λ k. leb (column_sum given n k) t) n (λ k b. ap (λ (x : ℕ). leb x t) (s.column k b)),
+      sums_decide n t given (ports_in_lem n h.some_port h.few_ports) (frame_in_lem t h.some_slot h.few_slots) h.from_square,
+      all_ext (λ k. leb (get_or rows k 0) t) (λ k. leb (row_sum given n k) t) n (λ k b. ap (λ (x : ℕ). leb x t) (s.row k b)),
+      all_ext (λ k. leb (get_or columns k 0) t) (λ k. leb (column_sum given n k) t) n (λ k b. ap (λ (x : ℕ). leb x t) (s.column k b)),
     )
 
 -- who gets Accepted: an accepted plan, with an output list of its length; and nobody else
-pub boost-taken : (n t : ℕ) (given rates : List ℕ) → boostVerdict n t given rates ≡ Accepted → (acceptOf n t given ≡ Accepted) × (length rates ≡ n * n)
-unfolding boostVerdict
-boost-taken n t given rates e =
-    let both = then-passed (lists_of n t (length given) (length rates)) (acceptOf n t given) e in
-    (both.1, (lists-passed n t (length given) (length rates) both.0).to-square)
+pub boost_taken : (n t : ℕ) (given rates : List ℕ) → boost_verdict n t given rates ≡ Accepted → (accept_of n t given ≡ Accepted) × (length rates ≡ n * n)
+unfolding boost_verdict
+boost_taken n t given rates e =
+    let both = then_passed (lists_of n t (length given) (length rates)) (accept_of n t given) e in
+    (both.1, (lists_passed n t (length given) (length rates) both.0).to_square)
 
-pub boost-done : (n t : ℕ) (given rates : List ℕ) → acceptOf n t given ≡ Accepted → length rates ≡ n * n → boostVerdict n t given rates ≡ Accepted
-unfolding boostVerdict
-boost-done n t given rates e h =
+pub boost_done : (n t : ℕ) (given rates : List ℕ) → accept_of n t given ≡ Accepted → length rates ≡ n * n → boost_verdict n t given rates ≡ Accepted
+unfolding boost_verdict
+boost_done n t given rates e h =
     let p = accepted n t given e in
     rw (
-      lists-pass n t (length given) (length rates) (record {
-        some-port = p.some-port;
-        few-ports = p.few-ports;
-        some-slot = p.some-slot;
-        few-slots = p.few-slots;
-        from-square = p.square;
-        to-square = h;
+      lists_pass n t (length given) (length rates) (record {
+        some_port = p.some_port;
+        few_ports = p.few_ports;
+        some_slot = p.some_slot;
+        few_slots = p.few_slots;
+        from_square = p.square;
+        to_square = h;
       }),
       e,
     )

@@ -5,56 +5,56 @@ use Rattle.std.specs.Prelude.{ℕ, zero, suc, ◌+◌, ◌-◌, ◌*◌, ◌%◌
 use Rattle.refusal.specs.Chain.{and_then}
 use Rattle.refusal.specs.declared.Verdict.{Verdict}
 use Rattle.refusal.specs.declared.Verdict.TheVariants.{Accepted}
-use Rattle.plan.specs.Lines.{flow_of, rowSum, column_sum}
-use Rattle.plan.specs.Accept.{acceptOf}
+use Rattle.plan.specs.Lines.{flow_of, row_sum, column_sum}
+use Rattle.plan.specs.Accept.{accept_of}
 use Rattle.regulator.specs.Outcome.{Outcome, written, lists_of}
-use Rattle.regulator.specs.Sums.{largerSum}
+use Rattle.regulator.specs.Sums.{larger_sum}
 
 -- the column of row i on diagonal k
-unfoldable pub columnOn : ℕ → ℕ → ℕ → ℕ
-columnOn n k i = (i + k) % n
+unfoldable pub column_on : ℕ → ℕ → ℕ → ℕ
+column_on n k i = (i + k) % n
 
 -- "T less the larger of its present row sum and column sum"
 abbrev pub spare_of : ℕ → ℕ → List ℕ → ℕ → ℕ → ℕ
-spare_of n t rates i j = t - largerSum rates n i j
+spare_of n t rates i j = t - larger_sum rates n i j
 
 -- "the rate at (i, j) grows by" that
-unfoldable pub boostPlace : ℕ → ℕ → ℕ → ℕ → List ℕ → List ℕ
-boostPlace n t i j rates = set rates (flow_of n i j) (get_or rates (flow_of n i j) 0 + spare_of n t rates i j)
+unfoldable pub boost_place : ℕ → ℕ → ℕ → ℕ → List ℕ → List ℕ
+boost_place n t i j rates = set rates (flow_of n i j) (get_or rates (flow_of n i j) 0 + spare_of n t rates i j)
 
 -- "for each i" below m, on diagonal k
-unfoldable pub boostDiagonal : ℕ → ℕ → ℕ → List ℕ → ℕ → List ℕ
-boostDiagonal n t k rates zero = rates
-boostDiagonal n t k rates (suc i) = boostPlace n t i (columnOn n k i) (boostDiagonal n t k rates i)
+unfoldable pub boost_diagonal : ℕ → ℕ → ℕ → List ℕ → ℕ → List ℕ
+boost_diagonal n t k rates zero = rates
+boost_diagonal n t k rates (suc i) = boost_place n t i (column_on n k i) (boost_diagonal n t k rates i)
 
 -- "diagonals (p + k) mod N": the one in turn k of period p. The order of the diagonals stands here and nowhere else.
-unfoldable pub diagonalIn : ℕ → ℕ → ℕ → ℕ
-diagonalIn n p k = (p + k) % n
+unfoldable pub diagonal_in : ℕ → ℕ → ℕ → ℕ
+diagonal_in n p k = (p + k) % n
 
 -- "for k = 0 to" m − 1, in an order, which has the diagonal of each turn
-unfoldable pub boostDiagonals : ℕ → ℕ → (ℕ → ℕ) → List ℕ → ℕ → List ℕ
-boostDiagonals n t order rates zero = rates
-boostDiagonals n t order rates (suc k) = boostDiagonal n t (order k) (boostDiagonals n t order rates k) n
+unfoldable pub boost_diagonals : ℕ → ℕ → (ℕ → ℕ) → List ℕ → ℕ → List ℕ
+boost_diagonals n t order rates zero = rates
+boost_diagonals n t order rates (suc k) = boost_diagonal n t (order k) (boost_diagonals n t order rates k) n
 
 -- all N of them, in the order of period p
-unfoldable pub boostedOf : ℕ → ℕ → ℕ → List ℕ → List ℕ
-boostedOf n t p given = boostDiagonals n t (diagonalIn n p) given n
+unfoldable pub boosted_of : ℕ → ℕ → ℕ → List ℕ → List ℕ
+boosted_of n t p given = boost_diagonals n t (diagonal_in n p) given n
 
 -- "Boost takes accepted plans only"
-unfoldable pub boostVerdict : ℕ → ℕ → List ℕ → List ℕ → Verdict
-boostVerdict n t given rates = and_then (lists_of n t (length given) (length rates)) (acceptOf n t given)
+unfoldable pub boost_verdict : ℕ → ℕ → List ℕ → List ℕ → Verdict
+boost_verdict n t given rates = and_then (lists_of n t (length given) (length rates)) (accept_of n t given)
 
-unfoldable pub boostOf : ℕ → ℕ → ℕ → List ℕ → List ℕ → Outcome
-boostOf n t p given rates = written (boostVerdict n t given rates) (boostedOf n t p given) rates
+unfoldable pub boost_of : ℕ → ℕ → ℕ → List ℕ → List ℕ → Outcome
+boost_of n t p given rates = written (boost_verdict n t given rates) (boosted_of n t p given) rates
 
 -- What boost makes of an accepted plan.
 pub record Boosted (n t : ℕ) (given : List ℕ) (out : Outcome) : Type 0 where
   pub done : out.verdict ≡ Accepted
-  pub rows : (i : ℕ) → i < n → rowSum out.list n i ≡ t
+  pub rows : (i : ℕ) → i < n → row_sum out.list n i ≡ t
   pub columns : (j : ℕ) → j < n → column_sum out.list n j ≡ t
-  pub plan : acceptOf n t out.list ≡ Accepted
+  pub plan : accept_of n t out.list ≡ Accepted
   pub above : (place : ℕ) → get_or given place 0 ≤ get_or out.list place 0
 
 -- in every period, for every accepted plan and every output list of its length (proofs/BoostLaws.antt, boosted-plan)
 abbrev pub BoostedPlan : Type 0
-BoostedPlan = (n t p : ℕ) (given rates : List ℕ) → acceptOf n t given ≡ Accepted → length rates ≡ n * n → Boosted n t given (boostOf n t p given rates)
+BoostedPlan = (n t p : ℕ) (given rates : List ℕ) → accept_of n t given ≡ Accepted → length rates ≡ n * n → Boosted n t given (boost_of n t p given rates)

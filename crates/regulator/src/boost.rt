@@ -1,11 +1,11 @@
 // Boost: spare slots are given out, diagonal by diagonal; the period number says which comes first.
 ghost use Rattle.std.specs.Prelude.{◌≡◌, ◌*◌, ◌<◌, ◌≤◌, get_or};
-ghost use Rattle.plan.specs.Range.{mostPorts};
-ghost use Rattle.plan.specs.Accept.{IsPlan, withinFrame};
+ghost use Rattle.plan.specs.Range.{most_ports};
+ghost use Rattle.plan.specs.Accept.{IsPlan, within_frame};
 ghost use Rattle.plan.specs.Lines.{flow_of};
 ghost use Rattle.regulator.specs.Outcome.{outcome};
 ghost use Rattle.regulator.specs.Sums.{LineSums};
-ghost use Rattle.regulator.specs.Boost.{columnOn, boostDiagonal, diagonalIn, boostedOf, boostOf};
+ghost use Rattle.regulator.specs.Boost.{column_on, boost_diagonal, diagonal_in, boosted_of, boost_of};
 
 use crate::lists::check_lists;
 use crate::sums::{Sums, larger, sums_of};
@@ -15,8 +15,8 @@ use refusal::{Refusal, Verdict};
 
 // Whether none of the n sums is above t.
 fn sums_fit(sums: [u32; MOST_PORTS], n: usize, t: u32) -> bool
-    requires { n ≤ mostPorts }
-    ensures { result ≡ withinFrame (λ k. get_or sums k 0) n t }
+    requires { n ≤ most_ports }
+    ensures { result ≡ within_frame (λ k. get_or sums k 0) n t }
 {
     for k in 0..n {
         if t < sums[k] {
@@ -28,15 +28,15 @@ fn sums_fit(sums: [u32; MOST_PORTS], n: usize, t: u32) -> bool
 
 // The column of row i on diagonal k.
 fn column_on(n: usize, k: usize, i: usize) -> usize
-    requires { (n ≤ mostPorts) × (k < n) × (i < n) }
-    ensures { (result ≡ columnOn n k i) × (result < n) }
+    requires { (n ≤ most_ports) × (k < n) × (i < n) }
+    ensures { (result ≡ column_on n k i) × (result < n) }
 {
     (i + k) % n
 }
 
 // Where the rate of the flow (i, j) stands.
 fn flow(n: usize, i: usize, j: usize) -> usize
-    requires { (n ≤ mostPorts) × (i < n) × (j < n) }
+    requires { (n ≤ most_ports) × (i < n) × (j < n) }
     ensures { (result ≡ flow_of n i j) × (result < n * n) }
 {
     i * n + j
@@ -45,7 +45,7 @@ fn flow(n: usize, i: usize, j: usize) -> usize
 // Diagonal k. Takes the sums of the rates, and answers them as they are afterwards.
 fn boost_diagonal(n: usize, t: u32, k: usize, sums: Sums, rates: &mut [u16]) -> Sums
     requires { IsPlan n t rates.old × LineSums rates.old n sums.rows sums.columns × (k < n) }
-    ensures { (rates.new ≡ boostDiagonal n t k rates.old n) × LineSums rates.new n result.rows result.columns }
+    ensures { (rates.new ≡ boost_diagonal n t k rates.old n) × LineSums rates.new n result.rows result.columns }
 {
     let mut rows = sums.rows;
     let mut columns = sums.columns;
@@ -62,15 +62,15 @@ fn boost_diagonal(n: usize, t: u32, k: usize, sums: Sums, rates: &mut [u16]) -> 
 
 // The diagonal in a turn of a period. The sum has 64 bits, so that no period number makes it wrap.
 fn diagonal_in(n: usize, period: u32, turn: usize) -> usize
-    requires { (n ≤ mostPorts) × (turn < n) }
-    ensures { (result ≡ diagonalIn n period turn) × (result < n) }
+    requires { (n ≤ most_ports) × (turn < n) }
+    ensures { (result ≡ diagonal_in n period turn) × (result < n) }
 {
     (period as usize + turn) % n
 }
 
 fn boost_diagonals(n: usize, t: u32, period: u32, sums: Sums, rates: &mut [u16])
     requires { IsPlan n t rates.old × LineSums rates.old n sums.rows sums.columns }
-    ensures { rates.new ≡ boostedOf n t period rates.old }
+    ensures { rates.new ≡ boosted_of n t period rates.old }
 {
     let mut sums = sums;
     for turn in 0..n {
@@ -80,7 +80,7 @@ fn boost_diagonals(n: usize, t: u32, period: u32, sums: Sums, rates: &mut [u16])
 
 // Writes the given plan with its spare slots given out, and answers whether it did.
 pub fn boost(n: usize, t: u32, period: u32, given: &[u16], rates: &mut [u16]) -> Verdict
-    ensures { outcome result rates.new ≡ boostOf n t period given.now rates.old }
+    ensures { outcome result rates.new ≡ boost_of n t period given.now rates.old }
 {
     let verdict = check_lists(n, t, given.len(), rates.len());
     let Verdict::Accepted = verdict else {

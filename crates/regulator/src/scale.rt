@@ -1,8 +1,8 @@
 // Scale: rates in proportion to demands.
 ghost use Rattle.std.specs.Prelude.{◌≡◌, ◌≤◌, length};
-ghost use Rattle.plan.specs.Range.{mostSlots};
+ghost use Rattle.plan.specs.Range.{most_slots};
 ghost use Rattle.regulator.specs.Outcome.{outcome, Checked};
-ghost use Rattle.regulator.specs.Scale.{share_of, scaledOf, scale_of};
+ghost use Rattle.regulator.specs.Scale.{share_of, scaled_of, scale_of};
 
 use crate::lists::check_lists;
 use crate::sums::{larger, sums_of};
@@ -10,7 +10,7 @@ use refusal::Verdict;
 
 // The rate of a demand; `sum` is the larger of its two sums.
 fn share(d: u16, t: u32, sum: u32) -> u16
-    requires { (d ≤ sum) × (t ≤ mostSlots) }
+    requires { (d ≤ sum) × (t ≤ most_slots) }
     ensures { result ≡ share_of d t sum }
 {
     if d == 0 {
@@ -21,7 +21,7 @@ fn share(d: u16, t: u32, sum: u32) -> u16
 
 fn scale_places(n: usize, t: u32, demands: &[u16], rates: &mut [u16])
     requires { Checked n t (length demands.now) (length rates.old) }
-    ensures { rates.new ≡ scaledOf n t demands.now }
+    ensures { rates.new ≡ scaled_of n t demands.now }
 {
     let sums = sums_of(demands, n);
     let rows = sums.rows;

@@ -1,6 +1,6 @@
 // The sums of all rows and columns of a list, kept side by side.
 ghost use Rattle.std.specs.Prelude.{◌≡◌, ◌*◌, ◌<◌, ◌≤◌, max, length};
-ghost use Rattle.plan.specs.Range.{mostPorts};
+ghost use Rattle.plan.specs.Range.{most_ports};
 ghost use Rattle.regulator.specs.Sums.{LineSums};
 
 use plan::lines::line_sum;
@@ -22,7 +22,7 @@ pub fn larger(a: u32, b: u32) -> u32
 }
 
 pub fn sums_of(list: &[u16], n: usize) -> Sums
-    requires { (n ≤ mostPorts) × (length list.now ≡ n * n) }
+    requires { (n ≤ most_ports) × (length list.now ≡ n * n) }
     ensures { LineSums list.now n result.rows result.columns }
 {
     let mut rows = [0u32; MOST_PORTS];

@@ -7,51 +7,51 @@ use native.Mathlib.Nat.{le-mul_of_pos_right, zero-mul, zero-div}
 use native.Mathlib.Omega.{arith}
 use lib.ListN.{length, length-append}
 use Rattle.plan.specs.Lines.{flow_of}
-use Rattle.plan.proofs.BelowLaws.{lt-or-le}
+use Rattle.plan.proofs.BelowLaws.{lt_or_le}
 use Rattle.crossbar.specs.declared.state.Switch.{Switch}
-use Rattle.runs.specs.Event.{Event, stateAfter, storeAfter}
-use Rattle.runs.specs.Run.{Happens, Follow, finalState, finalStore}
-use Rattle.runs.specs.Flow.{collect, acceptedIn, movedIn, leftIn, accepted, moved, left, slots, NeverEmpty, HasRate, shareUp, shareDown}
-use Rattle.runs.specs.Promise.{pointCells, queueCells, Holds}
-use Rattle.runs.proofs.RunLaws.{collect-append, total-append, final-state-append, follow-append}
+use Rattle.runs.specs.Event.{Event, state_after, store_after}
+use Rattle.runs.specs.Run.{Happens, Follow, final_state, final_store}
+use Rattle.runs.specs.Flow.{collect, accepted_in, moved_in, left_in, accepted, moved, left, slots, NeverEmpty, HasRate, share_up, share_down}
+use Rattle.runs.specs.Promise.{point_cells, queue_cells, Holds}
+use Rattle.runs.proofs.RunLaws.{collect_append, total_append, final_state_append, follow_append}
 use Rattle.runs.proofs.ShareLaws.{share-at-most, share-at-least, share-whole}
 use Rattle.runs.proofs.LedgerLaws.{held, byBoard, byHead, headServices, AtRest, NearEnds, Ledger, ledger-none, ledger-append}
 
 -- one event, for the flow (i, j) of a switch of n ports and frames of T slots
 pub record EventLaw (n T i j : ℕ) (s : Switch) (store : List ℕ) (e : Event) : Type 0 where
-  pub ledger : Ledger n T i j s (stateAfter e) (e ∷ [])
+  pub ledger : Ledger n T i j s (state_after e) (e ∷ [])
   -- the crosspoint after the moves
-  pub room : held n T i j s + length (movedIn i j e) ≤ 2
-  pub crossing : pointCells s (flow_of n i j) ++ movedIn i j e ≡ leftIn i j e ++ pointCells (stateAfter e) (flow_of n i j)
-  pub queue : queueCells s store (flow_of n i j) ++ acceptedIn i j e ≡ movedIn i j e ++ queueCells (stateAfter e) (storeAfter store e) (flow_of n i j)
+  pub room : held n T i j s + length (moved_in i j e) ≤ 2
+  pub crossing : point_cells s (flow_of n i j) ++ moved_in i j e ≡ left_in i j e ++ point_cells (state_after e) (flow_of n i j)
+  pub queue : queue_cells s store (flow_of n i j) ++ accepted_in i j e ≡ moved_in i j e ++ queue_cells (state_after e) (store_after store e) (flow_of n i j)
 
 -- what is known of one flow between two calls
 pub record FlowState (n T i j : ℕ) (s : Switch) : Type 0 where
   -- no more cells in the crosspoint than the board is ahead of the head, and one
   pub balanced : held n T i j s + byHead n T i j s ≤ byBoard n T i j s + 1
-  pub board-ahead : byBoard n T i j s ≤ byHead n T i j s + 1
+  pub board_ahead : byBoard n T i j s ≤ byHead n T i j s + 1
   pub room : held n T i j s ≤ 2
 
 module _
     (n T i j : ℕ)
-    (some-slot : 1 ≤ T)
+    (some_slot : 1 ≤ T)
     (Sound : Switch → List ℕ → Type 0)
-    (keeps : (s : Switch) (store : List ℕ) (e : Event) → Sound s store → Happens s store e → Sound (stateAfter e) (storeAfter store e))
+    (keeps : (s : Switch) (store : List ℕ) (e : Event) → Sound s store → Happens s store e → Sound (state_after e) (store_after store e))
     (knows : (s : Switch) (store : List ℕ) → Sound s store → FlowState n T i j s)
     (law : (s : Switch) (store : List ℕ) (e : Event) → Sound s store → Happens s store e → EventLaw n T i j s store e)
   where
-    sound-run : (s : Switch) (store : List ℕ) (es : List Event) → Sound s store → Follow s store es → Sound (finalState s es) (finalStore store es)
+    sound-run : (s : Switch) (store : List ℕ) (es : List Event) → Sound s store → Follow s store es → Sound (final_state s es) (final_store store es)
     sound-run s store [] ok h = ok
-    sound-run s store (e ∷ es) ok h = sound-run (stateAfter e) (storeAfter store e) es (keeps s store e ok h.0) h.1
+    sound-run s store (e ∷ es) ok h = sound-run (state_after e) (store_after store e) es (keeps s store e ok h.0) h.1
 
-    ledger-run : (s : Switch) (store : List ℕ) (es : List Event) → Sound s store → Follow s store es → Ledger n T i j s (finalState s es) es
+    ledger-run : (s : Switch) (store : List ℕ) (es : List Event) → Sound s store → Follow s store es → Ledger n T i j s (final_state s es) es
     ledger-run s store [] ok h = ledger-none n T i j s
     ledger-run s store (e ∷ es) ok h =
         ledger-append n T i j (e ∷ []) es (law s store e ok h.0).ledger
-        (ledger-run (stateAfter e) (storeAfter store e) es (keeps s store e ok h.0) h.1)
+        (ledger-run (state_after e) (store_after store e) es (keeps s store e ok h.0) h.1)
 
     pub crossing-run : (s : Switch) (store : List ℕ) (es : List Event) → Sound s store → Follow s store es
-        → pointCells s (flow_of n i j) ++ moved i j es ≡ left i j es ++ pointCells (finalState s es) (flow_of n i j)
+        → point_cells s (flow_of n i j) ++ moved i j es ≡ left i j es ++ point_cells (final_state s es) (flow_of n i j)
     unfolding collect
     crossing-run s store [] ok h = append-nil _
     crossing-run s store (e ∷ es) ok h =
@@ -59,12 +59,12 @@ module _
           ← append_assoc,
           (law s store e ok h.0).crossing,
           append_assoc,
-          crossing-run (stateAfter e) (storeAfter store e) es (keeps s store e ok h.0) h.1,
+          crossing-run (state_after e) (store_after store e) es (keeps s store e ok h.0) h.1,
           append_assoc,
         )
 
     pub queue-run : (s : Switch) (store : List ℕ) (es : List Event) → Sound s store → Follow s store es
-        → queueCells s store (flow_of n i j) ++ accepted i j es ≡ moved i j es ++ queueCells (finalState s es) (finalStore store es) (flow_of n i j)
+        → queue_cells s store (flow_of n i j) ++ accepted i j es ≡ moved i j es ++ queue_cells (final_state s es) (final_store store es) (flow_of n i j)
     unfolding collect
     queue-run s store [] ok h = append-nil _
     queue-run s store (e ∷ es) ok h =
@@ -72,7 +72,7 @@ module _
           ← append_assoc,
           (law s store e ok h.0).queue,
           append_assoc,
-          queue-run (stateAfter e) (storeAfter store e) es (keeps s store e ok h.0) h.1,
+          queue-run (state_after e) (store_after store e) es (keeps s store e ok h.0) h.1,
           append_assoc,
         )
 
@@ -87,23 +87,23 @@ module _
       where
         -- a first part of the run
         module _ (before after : List Event) (cut : es ≡ before ++ after) where
-          follows : Follow s₀ store₀ before × Follow (finalState s₀ before) (finalStore store₀ before) after
-          follows = follow-append s₀ store₀ before after (subst (Follow s₀ store₀) cut follow)
+          follows : Follow s₀ store₀ before × Follow (final_state s₀ before) (final_store store₀ before) after
+          follows = follow_append s₀ store₀ before after (subst (Follow s₀ store₀) cut follow)
 
-          sound-there : Sound (finalState s₀ before) (finalStore store₀ before)
+          sound-there : Sound (final_state s₀ before) (final_store store₀ before)
           sound-there = sound-run s₀ store₀ before sound follows.0
 
-          known-there : FlowState n T i j (finalState s₀ before)
+          known-there : FlowState n T i j (final_state s₀ before)
           known-there = knows _ _ sound-there
 
-          ledger-there : Ledger n T i j s₀ (finalState s₀ before) before
+          ledger-there : Ledger n T i j s₀ (final_state s₀ before) before
           ledger-there = ledger-run s₀ store₀ before sound follows.0
 
           pub holds-between : Holds i j before before
           holds-between =
               record {
-                never-below = omega (arith, ledger-there.cells, no_cell);
-                two-at-most = omega (arith, ledger-there.cells, no_cell, known-there.room);
+                never_below = omega (arith, ledger-there.cells, no_cell);
+                two_at_most = omega (arith, ledger-there.cells, no_cell, known-there.room);
               }
 
         pub holds-midway : (before : List Event) (e : Event) (after : List Event) → es ≡ before ++ (e ∷ after) → Holds i j (before ++ (e ∷ [])) before
@@ -111,26 +111,26 @@ module _
         holds-midway before e after cut =
             let one = law _ _ e (sound-there before (e ∷ after) cut) (follows before (e ∷ after) cut).1.0 in
             let books = ledger-there before (e ∷ after) cut in
-            let into = ap length (collect-append (movedIn i j) before (e ∷ [])) ∙ length-append (moved i j before) (movedIn i j e ++ []) in
-            let last = length-append (movedIn i j e) [] in
+            let into = ap length (collect_append (moved_in i j) before (e ∷ [])) ∙ length-append (moved i j before) (moved_in i j e ++ []) in
+            let last = length-append (moved_in i j e) [] in
             record {
-              never-below = omega (arith, books.cells, no_cell);
-              two-at-most = omega (arith, books.cells, no_cell, one.room);
+              never_below = omega (arith, books.cells, no_cell);
+              two_at_most = omega (arith, books.cells, no_cell, one.room);
             }
 
         module _ (before stretch after : List Event) (a : ℕ) (cut : es ≡ before ++ (stretch ++ after)) (rate : HasRate i j a stretch) where
           from : Switch
-          from = finalState s₀ before
+          from = final_state s₀ before
 
           upto : Switch
-          upto = finalState from stretch
+          upto = final_state from stretch
 
           joined : es ≡ (before ++ stretch) ++ after
           joined = cut ∙ sym (append_assoc before stretch after)
 
-          there : Follow from (finalStore store₀ before) stretch
+          there : Follow from (final_store store₀ before) stretch
           unfolding from
-          there = (follow-append _ _ stretch after (follows before (stretch ++ after) cut).1).0
+          there = (follow_append _ _ stretch after (follows before (stretch ++ after) cut).1).0
 
           known_from : FlowState n T i j from
           unfolding from
@@ -138,11 +138,11 @@ module _
 
           known-upto : FlowState n T i j upto
           unfolding from upto
-          known-upto = subst (FlowState n T i j) (final-state-append s₀ before stretch) (known-there (before ++ stretch) after joined)
+          known-upto = subst (FlowState n T i j) (final_state_append s₀ before stretch) (known-there (before ++ stretch) after joined)
 
           books : Ledger n T i j from upto stretch
           unfolding from upto
-          books = ledger-run from (finalStore store₀ before) stretch (sound-there before (stretch ++ after) cut) there
+          books = ledger-run from (final_store store₀ before) stretch (sound-there before (stretch ++ after) cut) there
 
           S : ℕ
           S = headServices n T i j stretch
@@ -156,10 +156,10 @@ module _
                 ap (λ (x : ℕ). x * a) p,
                 ap (λ (x : ℕ). x * T) d,
                 ap (λ (x : ℕ). x * a) t,
-                le-mul_of_pos_right {m = T} (headServices n T i j stretch) some-slot,
+                le-mul_of_pos_right {m = T} (headServices n T i j stretch) some_slot,
               )
 
-          pub at_most : length (left i j stretch) ≤ shareUp (slots stretch) a T + 1
+          pub at_most : length (left i j stretch) ≤ share_up (slots stretch) a T + 1
           unfolding S
           at_most =
               ⊎_elim
@@ -168,7 +168,7 @@ module _
               omega (arith, share-at-most T a _ _ _ _ _ _ (books.share a rate) p.0 p.1))
               (books.edges a rate)
 
-          services-at-least : shareDown (slots stretch) a T ≤ S + 1
+          services-at-least : share_down (slots stretch) a T ≤ S + 1
           unfolding S
           services-at-least =
               ⊎_elim
@@ -178,23 +178,23 @@ module _
               (books.edges a rate)
 
           -- where the board begins ahead, the head has not passed its share
-          services-whole : byHead n T i j from < byBoard n T i j from → shareDown (slots stretch) a T ≤ S
+          services-whole : byHead n T i j from < byBoard n T i j from → share_down (slots stretch) a T ≤ S
           unfolding S
           services-whole ahead =
               ⊎_elim
               (λ (p : AtRest n T i j from upto stretch). rw (p.0, zero-mul, zero-div) (omega arith))
               (λ (p : NearEnds n T i j a from upto).
-              let one : byBoard n T i j from ≡ byHead n T i j from + 1 = omega (arith, known_from.board-ahead) in
+              let one : byBoard n T i j from ≡ byHead n T i j from + 1 = omega (arith, known_from.board_ahead) in
               share-whole T a _ _ _ _ _ _ (books.share a rate) p.0 p.1 (omega (arith, p.2, ap (λ (x : ℕ). x * T) one)))
               (books.edges a rate)
 
           -- The head is empty twice at most, and once at most where the board doesn't begin ahead.
-          pub at_least : NeverEmpty i j stretch → shareDown (slots stretch) a T ≤ length (left i j stretch) + 2
+          pub at_least : NeverEmpty i j stretch → share_down (slots stretch) a T ≤ length (left i j stretch) + 2
           unfolding S
           at_least never =
               ⊎_elim
               (λ (ahead : byHead n T i j from < byBoard n T i j from).
-              omega (arith, services-whole ahead, books.empties, never, known_from.board-ahead, known-upto.balanced))
+              omega (arith, services-whole ahead, books.empties, never, known_from.board_ahead, known-upto.balanced))
               (λ (level : byBoard n T i j from ≤ byHead n T i j from).
               omega (arith, services-at-least, books.empties, never, known-upto.balanced))
-              (lt-or-le (byHead n T i j from) (byBoard n T i j from))
+              (lt_or_le (byHead n T i j from) (byBoard n T i j from))

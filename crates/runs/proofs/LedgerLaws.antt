@@ -8,34 +8,34 @@ use native.Mathlib.Nat.{mul-le-mul_right}
 use native.Mathlib.Omega.{arith}
 use lib.ListN.{length, length-append}
 use Rattle.plan.specs.Lines.{flow_of}
-use Rattle.crossbar.specs.State.{pointAt, boardCount, headCount}
-use Rattle.fabric.specs.Answer.{emptyWith, answer_of}
+use Rattle.crossbar.specs.State.{point_at, board_count, head_count}
+use Rattle.fabric.specs.Answer.{empty_with, answer_of}
 use Rattle.crossbar.specs.declared.state.Switch.{Switch}
 use Rattle.runs.specs.Event.{Event}
 use Rattle.runs.specs.Event.Event.{stepped, arrived, loaded}
-use Rattle.runs.specs.Flow.{collect, total, moved, left, movedIn, leftIn, slots, slotsIn, boardEmptyIn, HasRate}
-use Rattle.runs.proofs.RunLaws.{collect-append, total-append}
-use Rattle.runs.proofs.ShareLaws.{Near, Share, share-join}
+use Rattle.runs.specs.Flow.{collect, total, moved, left, moved_in, left_in, slots, slots_in, board_empty_in, HasRate}
+use Rattle.runs.proofs.RunLaws.{collect_append, total_append}
+use Rattle.runs.proofs.ShareLaws.{Near, Share, share_join}
 
 -- head j served board i and had no cell
-abbrev pub headEmptyIn : ℕ → ℕ → Event → ℕ
-headEmptyIn i j (stepped lent r) = cond (emptyWith i (answer_of r.sends j)) 1 0
-headEmptyIn i j (arrived lent p q cell r left) = 0
-headEmptyIn i j (loaded n t rates r) = 0
+abbrev pub head_empty_in : ℕ → ℕ → Event → ℕ
+head_empty_in i j (stepped lent r) = cond (empty_with i (answer_of r.sends j)) 1 0
+head_empty_in i j (arrived lent p q cell r left) = 0
+head_empty_in i j (loaded n t rates r) = 0
 
 module _ (n T i j : ℕ) where
   -- the cells in the crosspoint, and the counts of board and head
   abbrev pub held : Switch → ℕ
-  held s = (pointAt s (flow_of n i j)).count
+  held s = (point_at s (flow_of n i j)).count
 
   abbrev pub byBoard : Switch → ℕ
-  byBoard s = boardCount s i j
+  byBoard s = board_count s i j
 
   abbrev pub byHead : Switch → ℕ
-  byHead s = headCount s i j
+  byHead s = head_count s i j
 
   abbrev pub headServices : List Event → ℕ
-  headServices es = length (left i j es) + total (headEmptyIn i j) es
+  headServices es = length (left i j es) + total (head_empty_in i j) es
 
   -- no slot passed
   abbrev pub AtRest : Switch → Switch → List Event → Type 0
@@ -53,7 +53,7 @@ module _ (n T i j : ℕ) where
     pub cells : held s' + length (left i j es) ≡ held s + length (moved i j es)
     -- what is held and served by the head, less what is served by the board, grows by empty head services and falls by
     -- empty board services
-    pub empties : total (headEmptyIn i j) es + held s + byHead s + byBoard s' ≡ held s' + byHead s' + byBoard s + total (boardEmptyIn i j) es
+    pub empties : total (head_empty_in i j) es + held s + byHead s + byBoard s' ≡ held s' + byHead s' + byBoard s + total (board_empty_in i j) es
     pub share : (a : ℕ) → HasRate i j a es → Share T a (headServices es) (slots es) (byHead s) s.slot (byHead s') s'.slot
     pub edges : (a : ℕ) → HasRate i j a es → Edges a s s' es
 
@@ -67,7 +67,7 @@ module _ (n T i j : ℕ) where
 
   edges-append : (a : ℕ) (s s' s'' : Switch) (es fs : List Event) → Edges a s s' es → Edges a s' s'' fs → Edges a s s'' (es ++ fs)
   edges-append a s s' s'' es fs (inl (p, d, t, c)) (inl (q, d', t', c')) =
-      inl (omega (arith, total-append slotsIn es fs), d' ∙ d, t' ∙ t, omega (arith, c, c'))
+      inl (omega (arith, total_append slots_in es fs), d' ∙ d, t' ∙ t, omega (arith, c, c'))
   edges-append a s s' s'' es fs (inl (p, d, t, c)) (inr (begin, end, board)) =
       inr (rw (sym d, sym t) begin, end, omega (arith, board, mul-le-mul_right T c, ap (λ (x : ℕ). x * a) t))
   edges-append a s s' s'' es fs (inr (begin, end, board)) (inl (q, d', t', c')) = inr (begin, rw (d', t') end, board)
@@ -75,26 +75,26 @@ module _ (n T i j : ℕ) where
 
   pub ledger-append : {s s' s'' : Switch} (es fs : List Event) → Ledger s s' es → Ledger s' s'' fs → Ledger s s'' (es ++ fs)
   ledger-append {s} {s'} {s''} es fs l m =
-      let out = ap length (collect-append (leftIn i j) es fs) ∙ length-append (left i j es) (left i j fs) in
-      let into = ap length (collect-append (movedIn i j) es fs) ∙ length-append (moved i j es) (moved i j fs) in
-      let services : headServices (es ++ fs) ≡ headServices es + headServices fs = omega (arith, out, total-append (headEmptyIn i j) es fs) in
-      let dry = total-append (headEmptyIn i j) es fs in
-      let dryBoard = total-append (boardEmptyIn i j) es fs in
+      let out = ap length (collect_append (left_in i j) es fs) ∙ length-append (left i j es) (left i j fs) in
+      let into = ap length (collect_append (moved_in i j) es fs) ∙ length-append (moved i j es) (moved i j fs) in
+      let services : headServices (es ++ fs) ≡ headServices es + headServices fs = omega (arith, out, total_append (head_empty_in i j) es fs) in
+      let dry = total_append (head_empty_in i j) es fs in
+      let dryBoard = total_append (board_empty_in i j) es fs in
       record {
         cells = omega (arith, l.cells, m.cells);
         empties = omega (arith, l.empties, m.empties);
-        share = λ a h. let both = rate-append a es fs h in rw (services, total-append slotsIn es fs) (share-join T a _ _ _ _ _ _ _ _ _ _ (l.share a both.0) (m.share a both.1));
+        share = λ a h. let both = rate-append a es fs h in rw (services, total_append slots_in es fs) (share_join T a _ _ _ _ _ _ _ _ _ _ (l.share a both.0) (m.share a both.1));
         edges = λ a h. let both = rate-append a es fs h in edges-append a s s' s'' es fs (l.edges a both.0) (m.edges a both.1);
       }
 
   -- an event in which the flow's crosspoint and ports, and the slot, stay as they are
   pub ledger-still : (s s' : Switch) (e : Event) → held s' ≡ held s → byBoard s' ≡ byBoard s → byHead s' ≡ byHead s → s'.slot ≡ s.slot
-      → movedIn i j e ≡ [] → leftIn i j e ≡ [] → slotsIn e ≡ 0 → headEmptyIn i j e ≡ 0 → boardEmptyIn i j e ≡ 0
+      → moved_in i j e ≡ [] → left_in i j e ≡ [] → slots_in e ≡ 0 → head_empty_in i j e ≡ 0 → board_empty_in i j e ≡ 0
       → Ledger s s' (e ∷ [])
   unfolding total collect
   ledger-still s s' e x c d t m l n h b =
-      let into = ap length (append-nil (movedIn i j e) ∙ m) in
-      let out = ap length (append-nil (leftIn i j e) ∙ l) in
+      let into = ap length (append-nil (moved_in i j e) ∙ m) in
+      let out = ap length (append-nil (left_in i j e) ∙ l) in
       record {
         cells = omega arith;
         empties = omega arith;

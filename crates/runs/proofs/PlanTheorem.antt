@@ -3,53 +3,53 @@ use Prim.Native.Nat.{ℕ}
 use mathlib.Core.Path.{◌≡◌, refl, ap, sym, subst, ◌∙◌}
 use mathlib.Core.List.{List, [], ◌∷◌, ◌++◌}
 use Rattle.refusal.specs.declared.Verdict.TheVariants.{Accepted}
-use Rattle.planpair.specs.Rates.{planRates}
-use Rattle.crossbar.specs.Start.{freshWith}
+use Rattle.planpair.specs.Rates.{plan_rates}
+use Rattle.crossbar.specs.Start.{fresh_with}
 use Rattle.crossbar.specs.Load.{load_of}
 use Rattle.crossbar.specs.declared.state.Switch.{Switch}
 use Rattle.crossbar.specs.declared.state.Reply.{Reply}
-use Rattle.crossbar.proofs.StartLaws.{started-rates}
-use Rattle.crossbar.proofs.LoadLaws.{can-load, loads, load_told, load-state, load-twice}
-use Rattle.runs.specs.Event.{Event, call_of, stateAfter, storeAfter}
+use Rattle.crossbar.proofs.StartLaws.{started_rates}
+use Rattle.crossbar.proofs.LoadLaws.{can_load, loads, load_told, load_state, load_twice}
+use Rattle.runs.specs.Event.{Event, call_of, state_after, store_after}
 use Rattle.runs.specs.Event.Event.{loaded}
-use Rattle.runs.specs.Run.{Run, Happens, Follow, finalState, finalStore, answered, definedRun, calls_of}
-use Rattle.runs.specs.Plans.{acceptedAfter, lastAccepted, BeginsFrame, StillWaits, NeverRan, PlanPromise}
-use Rattle.runs.proofs.RunLaws.{happens-answered, follow-append}
+use Rattle.runs.specs.Run.{Run, Happens, Follow, final_state, final_store, answered, defined_run, calls_of}
+use Rattle.runs.specs.Plans.{accepted_after, last_accepted, BeginsFrame, StillWaits, NeverRan, PlanPromise}
+use Rattle.runs.proofs.RunLaws.{happens_answered, follow_append}
 use Rattle.runs.proofs.SoundLaws.{Sound}
-use Rattle.runs.proofs.CallLaws.{event-keeps}
+use Rattle.runs.proofs.CallLaws.{event_keeps}
 use Rattle.runs.proofs.PlanLaws.{standing, call-runs, call-standing, call_stays}
 use Rattle.runs.proofs.ReplacedLaws.{unseen}
 use Rattle.runs.proofs.Theorem.{start-facts, begins, known_start, known-run}
 
-event-standing : (s : Switch) (store : List ℕ) (e : Event) → Sound s store → Happens s store e → standing (stateAfter e) ≡ acceptedAfter (standing s) e
-event-standing s store e ok h =
-    subst (λ (x : Event). standing (stateAfter x) ≡ acceptedAfter (standing s) x) (sym (happens-answered s store e h)) (call-standing ok (call_of e))
+event_standing : (s : Switch) (store : List ℕ) (e : Event) → Sound s store → Happens s store e → standing (state_after e) ≡ accepted_after (standing s) e
+event_standing s store e ok h =
+    subst (λ (x : Event). standing (state_after x) ≡ accepted_after (standing s) x) (sym (happens_answered s store e h)) (call-standing ok (call_of e))
 
 -- the state has the plan that the calls so far accepted last
-standing-run : (s : Switch) (store : List ℕ) (es : List Event) → Sound s store → Follow s store es → standing (finalState s es) ≡ lastAccepted (standing s) es
-standing-run s store [] ok h = refl
-standing-run s store (e ∷ es) ok h =
-    standing-run (stateAfter e) (storeAfter store e) es (event-keeps s store e ok h.0).sound h.1
-    ∙ ap (λ (rates : List ℕ). lastAccepted rates es) (event-standing s store e ok h.0)
+standing_run : (s : Switch) (store : List ℕ) (es : List Event) → Sound s store → Follow s store es → standing (final_state s es) ≡ last_accepted (standing s) es
+standing_run s store [] ok h = refl
+standing_run s store (e ∷ es) ok h =
+    standing_run (state_after e) (store_after store e) es (event_keeps s store e ok h.0).sound h.1
+    ∙ ap (λ (rates : List ℕ). last_accepted rates es) (event_standing s store e ok h.0)
 
 module _ (run : Run) where
   abbrev s₀ : Switch
   s₀ = run.reply.state
 
   standing-start : standing s₀ ≡ run.rates
-  unfolding freshWith
-  standing-start = subst (λ (s : Switch). standing s ≡ run.rates) (sym (begins run)) (started-rates run.ports run.frame run.rates (start-facts run).plan)
+  unfolding fresh_with
+  standing-start = subst (λ (s : Switch). standing s ≡ run.rates) (sym (begins run)) (started_rates run.ports run.frame run.rates (start-facts run).plan)
 
   -- where the run is cut, the switch is sound and the rest follows
   module _ (before after : List Event) (cut : run.events ≡ before ++ after) where
     abbrev s : Switch
-    s = finalState s₀ before
+    s = final_state s₀ before
 
     abbrev store : List ℕ
-    store = finalStore run.store before
+    store = final_store run.store before
 
     parts : Follow s₀ run.store before × Follow s store after
-    parts = follow-append s₀ run.store before after (subst (Follow s₀ run.store) cut run.follow)
+    parts = follow_append s₀ run.store before after (subst (Follow s₀ run.store) cut run.follow)
 
     sound-there : Sound s store
     sound-there = (known-run run s₀ run.store before (known_start run) parts.0).sound
@@ -57,57 +57,57 @@ module _ (run : Run) where
     rest-follows : Follow s store after
     rest-follows = parts.1
 
-    standing-there : standing s ≡ lastAccepted run.rates before
-    standing-there = standing-run s₀ run.store before (known_start run).sound parts.0 ∙ ap (λ (rates : List ℕ). lastAccepted rates before) standing-start
+    standing-there : standing s ≡ last_accepted run.rates before
+    standing-there = standing_run s₀ run.store before (known_start run).sound parts.0 ∙ ap (λ (rates : List ℕ). last_accepted rates before) standing-start
 
   module _ (before : List Event) (e : Event) (after : List Event) (cut : run.events ≡ before ++ (e ∷ after)) where
     abbrev at : Switch
-    at = finalState s₀ before
+    at = final_state s₀ before
 
-    is : e ≡ answered at (finalStore run.store before) (call_of e)
-    is = happens-answered at _ e (rest-follows before (e ∷ after) cut).0
+    is : e ≡ answered at (final_store run.store before) (call_of e)
+    is = happens_answered at _ e (rest-follows before (e ∷ after) cut).0
 
-    takes-over : BeginsFrame at e → planRates (stateAfter e).running ≡ lastAccepted run.rates before
+    takes-over : BeginsFrame at e → plan_rates (state_after e).running ≡ last_accepted run.rates before
     takes-over b =
-        ap (λ (x : Event). planRates (stateAfter x).running) is
+        ap (λ (x : Event). plan_rates (state_after x).running) is
         ∙ call-runs (sound-there before (e ∷ after) cut) (call_of e) (subst (BeginsFrame at) is b)
         ∙ standing-there before (e ∷ after) cut
 
-    stays : (BeginsFrame at e → ⊥) → (stateAfter e).running ≡ at.running
-    stays h = ap (λ (x : Event). (stateAfter x).running) is ∙ call_stays at _ (call_of e) (λ b. h (subst (BeginsFrame at) (sym is) b))
+    stays : (BeginsFrame at e → ⊥) → (state_after e).running ≡ at.running
+    stays h = ap (λ (x : Event). (state_after x).running) is ∙ call_stays at _ (call_of e) (λ b. h (subst (BeginsFrame at) (sym is) b))
 
   module _ (before : List Event) (n t : ℕ) (first : List ℕ) (r : Reply) (between : List Event) (m u : ℕ) (second : List ℕ) (q : Reply) (after : List Event)
       (cut : run.events ≡ before ++ (loaded n t first r ∷ (between ++ (loaded m u second q ∷ after)))) where
     abbrev found : Switch
-    found = finalState s₀ before
+    found = final_state s₀ before
 
     abbrev left : List ℕ
-    left = finalStore run.store before
+    left = final_store run.store before
 
     -- the state that the second load finds in a run without the first
     abbrev without : Switch
-    without = finalState found (definedRun found left (calls_of between))
+    without = final_state found (defined_run found left (calls_of between))
 
     rest : Follow found left (loaded n t first r ∷ (between ++ (loaded m u second q ∷ after)))
     rest = rest-follows before (loaded n t first r ∷ (between ++ (loaded m u second q ∷ after))) cut
 
-    parts-between : Follow r.state left between × Follow (finalState r.state between) (finalStore left between) (loaded m u second q ∷ after)
-    parts-between = follow-append r.state left between (loaded m u second q ∷ after) rest.1
+    parts-between : Follow r.state left between × Follow (final_state r.state between) (final_store left between) (loaded m u second q ∷ after)
+    parts-between = follow_append r.state left between (loaded m u second q ∷ after) rest.1
 
     never-ran : r.verdict ≡ Accepted → StillWaits r.state between → q.verdict ≡ Accepted → NeverRan found left n t first between m u second q
     never-ran e still f =
         let accepted = load_told found n t first rest.0 e in
-        let can = can-load found n t first accepted in
-        let waits = ap (λ (x : Reply). x.state) rest.0 ∙ load-state found n t first accepted in
+        let can = can_load found n t first accepted in
+        let waits = ap (λ (x : Reply). x.state) rest.0 ∙ load_state found n t first accepted in
         let hidden = unseen n t first found left between (sound-there before _ cut) can (subst (λ (x : Switch). Follow x left between) waits parts-between.0) (subst (λ (x : Switch). StillWaits x between) waits still) in
         let first-there = loads without n t first hidden.can in
-        let reached = ap (λ (x : Switch). finalState x between) waits ∙ hidden.state ∙ sym (load-state without n t first first-there) in
+        let reached = ap (λ (x : Switch). final_state x between) waits ∙ hidden.state ∙ sym (load_state without n t first first-there) in
         let second-there : q ≡ load_of (load_of without n t first).state m u second = parts-between.1.0 ∙ ap (λ (x : Switch). load_of x m u second) reached in
         record {
-          same-between = hidden.events;
+          same_between = hidden.events;
           same_store = hidden.left;
-          same_after = second-there ∙ load-twice without n t m u first second first-there (load_told _ m u second second-there f);
+          same_after = second-there ∙ load_twice without n t m u first second first-there (load_told _ m u second second-there f);
         }
 
-pub plans-of-every-run : (run : Run) → PlanPromise run
-plans-of-every-run run = record { last-takes-over = takes-over run; stays = stays run; replaced-never-ran = never-ran run }
+pub plans_of_every_run : (run : Run) → PlanPromise run
+plans_of_every_run run = record { last_takes_over = takes-over run; stays = stays run; replaced_never_ran = never-ran run }

@@ -7,32 +7,32 @@ use lib.ListN.{length}
 use borrow.Author.Tests.{ne_eqb}
 use Rattle.refusal.specs.declared.Verdict.{Verdict}
 use Rattle.refusal.specs.declared.Verdict.TheVariants.{Accepted, Refused}
-use Rattle.crossbar.specs.Arrive.{Arrival, arriveVerdict, arriveOf}
-use Rattle.crossbar.specs.Load.{withWaiting, loadVerdict, CanLoad, load_of}
-use Rattle.crossbar.specs.Takeover.{takesOver}
-use Rattle.crossbar.specs.Step.{boardChoices, headChoices, afterSlot, stepVerdict, step_of}
+use Rattle.crossbar.specs.Arrive.{Arrival, arrive_verdict, arrive_of}
+use Rattle.crossbar.specs.Load.{with_waiting, load_verdict, CanLoad, load_of}
+use Rattle.crossbar.specs.Takeover.{takes_over}
+use Rattle.crossbar.specs.Step.{board_choices, head_choices, after_slot, step_verdict, step_of}
 use Rattle.crossbar.specs.declared.state.Switch.{Switch}
 use Rattle.crossbar.specs.declared.state.Reply.{Reply}
 use Rattle.crossbar.specs.declared.state.SlotReply.{SlotReply}
 use Rattle.crossbar.proofs.TakeoverLaws.{not_taken}
-use Rattle.runs.specs.Event.{Call, Event, call_of, stateAfter, storeAfter}
+use Rattle.runs.specs.Event.{Call, Event, call_of, state_after, store_after}
 use Rattle.runs.specs.Event.Lent.{own, other}
 use Rattle.runs.specs.Event.Call.{step, arrive, load}
 use Rattle.runs.specs.Event.Event.{stepped, arrived, loaded}
-use Rattle.runs.specs.Run.{Happens, Follow, finalState, finalStore, answered, definedRun, calls_of}
-use Rattle.runs.specs.Plans.{BeginsFrame, PutsInWaiting, StillWaits, whileWaiting}
-use Rattle.runs.proofs.RunLaws.{happens-answered}
+use Rattle.runs.specs.Run.{Happens, Follow, final_state, final_store, answered, defined_run, calls_of}
+use Rattle.runs.specs.Plans.{BeginsFrame, PutsInWaiting, StillWaits, while_waiting}
+use Rattle.runs.proofs.RunLaws.{happens_answered}
 use Rattle.runs.proofs.SoundLaws.{Sound}
-use Rattle.runs.proofs.ValidityLaws.{sound-valid}
+use Rattle.runs.proofs.ValidityLaws.{sound_valid}
 use Rattle.runs.proofs.LoadLaws.{sound-load}
 use Rattle.runs.proofs.StepLaws.{has_room}
 use Rattle.runs.proofs.TakeoverLaws.{takeover-sound}
-use Rattle.runs.proofs.CallLaws.{call-keeps, allowed}
+use Rattle.runs.proofs.CallLaws.{call_keeps, allowed}
 
 module _ (n t : ℕ) (rates : List ℕ) where
   -- the state with the plan in waiting
   abbrev with : Switch → Switch
-  with s = withWaiting s n t rates
+  with s = with_waiting s n t rates
 
   abbrev replyWith : Reply → Reply
   replyWith r = record { verdict = r.verdict; state = with r.state }
@@ -45,63 +45,63 @@ module _ (n t : ℕ) (rates : List ℕ) where
     sound-with : Sound (with s) store
     sound-with = sound-load ok n t rates can
 
-    arrive-verdict : (len i j : ℕ) → arriveVerdict (with s) len i j ≡ arriveVerdict s len i j
-    unfolding arriveVerdict
-    arrive-verdict len i j = rw (sound-valid ok, sound-valid sound-with) refl
+    arrive-verdict : (len i j : ℕ) → arrive_verdict (with s) len i j ≡ arrive_verdict s len i j
+    unfolding arrive_verdict
+    arrive-verdict len i j = rw (sound_valid ok, sound_valid sound-with) refl
 
-    arrive-with : (lent : List ℕ) (i j cell : ℕ) → let a = arriveOf s lent i j cell in
-        arriveOf (with s) lent i j cell ≡ record { reply = replyWith a.reply; store = a.store }
-    unfolding arriveOf
-    arrive-with lent i j cell = go (arriveVerdict s (length lent) i j) refl
+    arrive-with : (lent : List ℕ) (i j cell : ℕ) → let a = arrive_of s lent i j cell in
+        arrive_of (with s) lent i j cell ≡ record { reply = replyWith a.reply; store = a.store }
+    unfolding arrive_of
+    arrive-with lent i j cell = go (arrive_verdict s (length lent) i j) refl
       where
-        go : (v : Verdict) → arriveVerdict s (length lent) i j ≡ v → let a = arriveOf s lent i j cell in
-            arriveOf (with s) lent i j cell ≡ record { reply = replyWith a.reply; store = a.store }
+        go : (v : Verdict) → arrive_verdict s (length lent) i j ≡ v → let a = arrive_of s lent i j cell in
+            arrive_of (with s) lent i j cell ≡ record { reply = replyWith a.reply; store = a.store }
         go Accepted e = rw (arrive-verdict (length lent) i j, e) refl
         go (Refused r) e = rw (arrive-verdict (length lent) i j, e) refl
 
-    load-verdict : (m u : ℕ) (new : List ℕ) → loadVerdict (with s) m u new ≡ loadVerdict s m u new
-    unfolding loadVerdict
-    load-verdict m u new = rw (sound-valid ok, sound-valid sound-with) refl
+    load-verdict : (m u : ℕ) (new : List ℕ) → load_verdict (with s) m u new ≡ load_verdict s m u new
+    unfolding load_verdict
+    load-verdict m u new = rw (sound_valid ok, sound_valid sound-with) refl
 
     load-with : (m u : ℕ) (new : List ℕ) → ((load_of (with s) m u new).verdict ≡ Accepted → ⊥) → load_of (with s) m u new ≡ replyWith (load_of s m u new)
     unfolding load_of
-    load-with m u new h = go (loadVerdict s m u new) refl
+    load-with m u new h = go (load_verdict s m u new) refl
       where
-        go : (v : Verdict) → loadVerdict s m u new ≡ v → load_of (with s) m u new ≡ replyWith (load_of s m u new)
+        go : (v : Verdict) → load_verdict s m u new ≡ v → load_of (with s) m u new ≡ replyWith (load_of s m u new)
         go Accepted e = absurd (h (load-verdict m u new ∙ e))
         go (Refused r) e = rw (load-verdict m u new, e) refl
 
-    step-verdict : (len : ℕ) → stepVerdict (with s) len ≡ stepVerdict s len
-    unfolding stepVerdict
-    step-verdict len = rw (sound-valid ok, sound-valid sound-with, has_room (takeover-sound ok).0, has_room (takeover-sound sound-with).0) refl
+    step-verdict : (len : ℕ) → step_verdict (with s) len ≡ step_verdict s len
+    unfolding step_verdict
+    step-verdict len = rw (sound_valid ok, sound_valid sound-with, has_room (takeover-sound ok).0, has_room (takeover-sound sound-with).0) refl
 
     step-with : (lent : List ℕ) → ((step_of (with s) lent).verdict ≡ Accepted → s.slot ≡ 0 → ⊥) → step_of (with s) lent ≡ slotWith (step_of s lent)
-    unfolding step_of afterSlot boardChoices headChoices
-    step-with lent h = go (stepVerdict s (length lent)) refl
+    unfolding step_of after_slot board_choices head_choices
+    step-with lent h = go (step_verdict s (length lent)) refl
       where
-        go : (v : Verdict) → stepVerdict s (length lent) ≡ v → step_of (with s) lent ≡ slotWith (step_of s lent)
+        go : (v : Verdict) → step_verdict s (length lent) ≡ v → step_of (with s) lent ≡ slotWith (step_of s lent)
         go Accepted e =
             let same = step-verdict (length lent) in
             let later = ne_eqb s.slot 0 (h (same ∙ e)) in
-            let mine : takesOver s ≡ false = rw later refl in
-            let its : takesOver (with s) ≡ false = rw later refl in
+            let mine : takes_over s ≡ false = rw later refl in
+            let its : takes_over (with s) ≡ false = rw later refl in
             rw (same, e, not_taken s mine, not_taken (with s) its) refl
         go (Refused r) e = rw (step-verdict (length lent), e) refl
 
     call-with : (c : Call) → (BeginsFrame (with s) (answered (with s) store c) → ⊥) → (PutsInWaiting (answered (with s) store c) → ⊥)
-        → answered (with s) store c ≡ whileWaiting n t rates (answered s store c)
+        → answered (with s) store c ≡ while_waiting n t rates (answered s store c)
     call-with (step own) b p = ap (stepped own) (step-with store (λ e z. b (e, z)))
     call-with (step (other l)) b p = ap (stepped (other l)) (step-with l (λ e z. b (e, z)))
     call-with (arrive own i j cell) b p = ap (λ (a : Arrival). arrived own i j cell a.reply a.store) (arrive-with store i j cell)
     call-with (arrive (other l) i j cell) b p = ap (λ (a : Arrival). arrived (other l) i j cell a.reply a.store) (arrive-with l i j cell)
     call-with (load m u new) b p = ap (loaded m u new) (load-with m u new p)
 
-  state-with : (e : Event) → stateAfter (whileWaiting n t rates e) ≡ with (stateAfter e)
+  state-with : (e : Event) → state_after (while_waiting n t rates e) ≡ with (state_after e)
   state-with (stepped lent r) = refl
   state-with (arrived lent i j cell r left) = refl
   state-with (loaded m u new r) = refl
 
-  store-with : (store : List ℕ) (e : Event) → storeAfter store (whileWaiting n t rates e) ≡ storeAfter store e
+  store-with : (store : List ℕ) (e : Event) → store_after store (while_waiting n t rates e) ≡ store_after store e
   store-with store (stepped lent r) = refl
   store-with store (arrived own i j cell r left) = refl
   store-with store (arrived (other l) i j cell r left) = refl
@@ -109,36 +109,36 @@ module _ (n t : ℕ) (rates : List ℕ) where
 
   -- an event in the state with the plan in waiting, and the same call's without it
   record Beside (s : Switch) (store : List ℕ) (e without : Event) : Type 0 where
-    same : e ≡ whileWaiting n t rates without
-    state : stateAfter e ≡ with (stateAfter without)
-    left : storeAfter store e ≡ storeAfter store without
-    sound : Sound (stateAfter without) (storeAfter store without)
-    can : CanLoad (stateAfter without) n t rates
+    same : e ≡ while_waiting n t rates without
+    state : state_after e ≡ with (state_after without)
+    left : store_after store e ≡ store_after store without
+    sound : Sound (state_after without) (store_after store without)
+    can : CanLoad (state_after without) n t rates
 
   beside : {s : Switch} {store : List ℕ} → Sound s store → CanLoad s n t rates → (e : Event) → Happens (with s) store e → (BeginsFrame (with s) e → ⊥)
       → (PutsInWaiting e → ⊥) → Beside s store e (answered s store (call_of e))
   beside {s} {store} ok can e h b p =
       let without = answered s store (call_of e) in
-      let is = happens-answered (with s) store e h in
-      let same : e ≡ whileWaiting n t rates without = is ∙ call-with ok can (call_of e) (subst (λ (x : Event). BeginsFrame (with s) x → ⊥) is b) (subst (λ (x : Event). PutsInWaiting x → ⊥) is p) in
-      let kept = call-keeps s store ok (call_of e) (allowed (with s) store e h) in
+      let is = happens_answered (with s) store e h in
+      let same : e ≡ while_waiting n t rates without = is ∙ call-with ok can (call_of e) (subst (λ (x : Event). BeginsFrame (with s) x → ⊥) is b) (subst (λ (x : Event). PutsInWaiting x → ⊥) is p) in
+      let kept = call_keeps s store ok (call_of e) (allowed (with s) store e h) in
       record {
         same = same;
-        state = ap stateAfter same ∙ state-with without;
-        left = ap (storeAfter store) same ∙ store-with store without;
+        state = ap state_after same ∙ state-with without;
+        left = ap (store_after store) same ∙ store-with store without;
         sound = kept.sound;
-        can = record { valid = sound-valid kept.sound; plan = can.plan; ports = can.ports ∙ sym kept.ports; frame = can.frame ∙ sym kept.frame };
+        can = record { valid = sound_valid kept.sound; plan = can.plan; ports = can.ports ∙ sym kept.ports; frame = can.frame ∙ sym kept.frame };
       }
 
   -- What a list of calls comes to while the plan waits.
   pub record Unseen (s : Switch) (store : List ℕ) (es : List Event) : Type 0 where
-    pub events : es ≡ map (whileWaiting n t rates) (definedRun s store (calls_of es))
-    pub state : finalState (with s) es ≡ with (finalState s (definedRun s store (calls_of es)))
-    pub left : finalStore store es ≡ finalStore store (definedRun s store (calls_of es))
-    pub can : CanLoad (finalState s (definedRun s store (calls_of es))) n t rates
+    pub events : es ≡ map (while_waiting n t rates) (defined_run s store (calls_of es))
+    pub state : final_state (with s) es ≡ with (final_state s (defined_run s store (calls_of es)))
+    pub left : final_store store es ≡ final_store store (defined_run s store (calls_of es))
+    pub can : CanLoad (final_state s (defined_run s store (calls_of es))) n t rates
 
   pub unseen : (s : Switch) (store : List ℕ) (es : List Event) → Sound s store → CanLoad s n t rates → Follow (with s) store es → StillWaits (with s) es → Unseen s store es
-  unfolding definedRun calls_of
+  unfolding defined_run calls_of
   unseen s store [] ok can h w = record { events = refl; state = refl; left = refl; can = can }
   unseen s store (e ∷ es) ok can h w =
       let one = beside ok can e h.0 w.0 w.1 in
@@ -146,7 +146,7 @@ module _ (n t : ℕ) (rates : List ℕ) where
       let rest = unseen _ _ es one.sound one.can follow (subst (λ (u : Switch). StillWaits u es) one.state w.2) in
       record {
         events = rw (← one.same) (ap (λ (l : List Event). e ∷ l) rest.events);
-        state = ap (λ (u : Switch). finalState u es) one.state ∙ rest.state;
-        left = ap (λ (l : List ℕ). finalStore l es) one.left ∙ rest.left;
+        state = ap (λ (u : Switch). final_state u es) one.state ∙ rest.state;
+        left = ap (λ (l : List ℕ). final_store l es) one.left ∙ rest.left;
         can = rest.can;
       }

@@ -3,7 +3,7 @@ use Prim.Native.Nat.{ℕ, ◌+◌, ◌-◌, ◌*◌, ◌<◌, ◌≤◌}
 use mathlib.Core.Path.{◌≡◌}
 use native.Mathlib.Nat.{lt_of_mul-lt-mul_right, div-mul-le_self, lt-div-mul-add}
 use native.Mathlib.Omega.{arith}
-use Rattle.runs.specs.Flow.{shareUp, shareDown}
+use Rattle.runs.specs.Flow.{share_up, share_down}
 
 -- d services in the first t slots of a frame of T, at rate a: less than one ahead of the share, and less than one behind
 pub record Near (T a d t : ℕ) : Type 0 where
@@ -14,26 +14,26 @@ pub record Near (T a d t : ℕ) : Type 0 where
 abbrev pub Share : ℕ → ℕ → ℕ → ℕ → ℕ → ℕ → ℕ → ℕ → Type 0
 Share T a S l d₀ t₀ d₁ t₁ = S * T + d₀ * T + t₁ * a ≡ l * a + t₀ * a + d₁ * T
 
-pub share-join : (T a S l d₀ t₀ d₁ t₁ S' l' d₂ t₂ : ℕ) → Share T a S l d₀ t₀ d₁ t₁ → Share T a S' l' d₁ t₁ d₂ t₂ → Share T a (S + S') (l + l') d₀ t₀ d₂ t₂
-share-join T a S l d₀ t₀ d₁ t₁ S' l' d₂ t₂ p q = omega arith
+pub share_join : (T a S l d₀ t₀ d₁ t₁ S' l' d₂ t₂ : ℕ) → Share T a S l d₀ t₀ d₁ t₁ → Share T a S' l' d₁ t₁ d₂ t₂ → Share T a (S + S') (l + l') d₀ t₀ d₂ t₂
+share_join T a S l d₀ t₀ d₁ t₁ S' l' d₂ t₂ p q = omega arith
 
 module _ (T a S l d₀ t₀ d₁ t₁ : ℕ) (share : Share T a S l d₀ t₀ d₁ t₁) (begin : Near T a d₀ t₀) (end : Near T a d₁ t₁) where
   pos : 1 ≤ T
   pos = omega (arith, begin.early, begin.late)
 
-  pub share-at-most : S ≤ shareUp l a T + 1
+  pub share-at-most : S ≤ share_up l a T + 1
   share-at-most =
       let up = lt-div-mul-add {a = l * a + (T - 1)} {b = T} pos in
-      let close : S * T < (shareUp l a T + 2) * T = omega (arith, begin.late, end.early) in
-      omega (arith, lt_of_mul-lt-mul_right T {m = S} {n = shareUp l a T + 2} close)
+      let close : S * T < (share_up l a T + 2) * T = omega (arith, begin.late, end.early) in
+      omega (arith, lt_of_mul-lt-mul_right T {m = S} {n = share_up l a T + 2} close)
 
-  pub share-at-least : shareDown l a T ≤ S + 1
+  pub share-at-least : share_down l a T ≤ S + 1
   share-at-least =
-      let close : shareDown l a T * T < (S + 2) * T = omega (arith, div-mul-le_self (l * a) T, begin.early, end.late) in
-      omega (arith, lt_of_mul-lt-mul_right T {m = shareDown l a T} {n = S + 2} close)
+      let close : share_down l a T * T < (S + 2) * T = omega (arith, div-mul-le_self (l * a) T, begin.early, end.late) in
+      omega (arith, lt_of_mul-lt-mul_right T {m = share_down l a T} {n = S + 2} close)
 
   -- begun where the share was not yet passed, no service is missing
-  pub share-whole : d₀ * T ≤ t₀ * a → shareDown l a T ≤ S
+  pub share-whole : d₀ * T ≤ t₀ * a → share_down l a T ≤ S
   share-whole behind =
-      let close : shareDown l a T * T < (S + 1) * T = omega (arith, div-mul-le_self (l * a) T, behind, end.late) in
-      omega (arith, lt_of_mul-lt-mul_right T {m = shareDown l a T} {n = S + 1} close)
+      let close : share_down l a T * T < (S + 1) * T = omega (arith, div-mul-le_self (l * a) T, behind, end.late) in
+      omega (arith, lt_of_mul-lt-mul_right T {m = share_down l a T} {n = S + 1} close)

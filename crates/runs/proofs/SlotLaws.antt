@@ -6,7 +6,7 @@ use native.Mathlib.Omega.{arith}
 use lib.ListN.{length}
 use Rattle.fabric.specs.declared.flow.Queue.{Queue}
 use Rattle.fabric.specs.declared.flow.Crosspoint.{Crosspoint}
-use Rattle.runs.proofs.BalanceLaws.{OneSlot, two-at-most, balanced-after}
+use Rattle.runs.proofs.BalanceLaws.{OneSlot, two_at_most, balanced-after}
 use Rattle.runs.proofs.CellLaws.{held}
 use Rattle.runs.proofs.ShareLaws.{Near, Share}
 use Rattle.runs.proofs.TurnLaws.{BoardTurn, HeadTurn}
@@ -21,13 +21,13 @@ pub data Next (T a t c d b h t' c' d' : ℕ) : Type 0 where
 pub record FlowSlot
     (store : List ℕ) (T a depth k t t' c c' d d' b h : ℕ)
     (q q' : Queue) (x y z : Crosspoint) (into out : List ℕ) (board-empty head-empty : ℕ) : Type 0 where
-  pub some-slot : 1 ≤ T
-  pub board-near : Near T a c t
+  pub some_slot : 1 ≤ T
+  pub board_near : Near T a c t
   pub head_near : Near T a d t
-  pub board-once : b ≤ 1
-  pub head-once : h ≤ 1
-  pub board-eligible : 1 ≤ b → c * T ≤ t * a
-  pub head-eligible : 1 ≤ h → d * T ≤ t * a
+  pub board_once : b ≤ 1
+  pub head_once : h ≤ 1
+  pub board_eligible : 1 ≤ b → c * T ≤ t * a
+  pub head_eligible : 1 ≤ h → d * T ≤ t * a
   pub balanced : x.count + d ≤ c + 1
   pub board : BoardTurn store depth k q q' x y b into board-empty
   pub head : HeadTurn y z h out head-empty
@@ -41,27 +41,27 @@ module _
     one-slot : OneSlot T a t c d x.count b h (length into) (length out) board-empty head-empty
     one-slot =
         record {
-          board-near = s.board-near;
+          board_near = s.board_near;
           head_near = s.head_near;
-          board-once = s.board-once;
-          head-once = s.head-once;
-          board-eligible = s.board-eligible;
-          head-eligible = s.head-eligible;
+          board_once = s.board_once;
+          head_once = s.head_once;
+          board_eligible = s.board_eligible;
+          head_eligible = s.head_eligible;
           balanced = s.balanced;
-          board-split = s.board.split;
-          head-split = s.head.split;
-          sent-there = omega (arith, s.board.count, s.head.count);
-          empty-there = λ some. sym s.board.count ∙ s.head.dry some;
+          board_split = s.board.split;
+          head_split = s.head.split;
+          sent_there = omega (arith, s.board.count, s.head.count);
+          empty_there = λ some. sym s.board.count ∙ s.head.dry some;
         }
 
     pub slot-room : x.count + length into ≤ 2
-    slot-room = two-at-most one-slot
+    slot-room = two_at_most one-slot
 
     pub slot-cells : z.count + length out ≡ x.count + length into
     slot-cells = s.head.count ∙ s.board.count
 
     pub slot-crossing : held x ++ into ≡ out ++ held z
-    slot-crossing = s.board.to-point ∙ s.head.from-point
+    slot-crossing = s.board.to_point ∙ s.head.from_point
 
     after : z.count + (d + h) ≤ c + b + 1
     after = balanced-after one-slot z.count slot-cells
@@ -96,4 +96,4 @@ module _
       where
         go : Next T a t c d b h t' c' d' → Near T a d' t'
         go (goes_on l et ec ed near) = near
-        go (ends l ec ed et zc zd) = rw (et, zd) (record { early = omega (arith, s.some-slot); late = omega (arith, s.some-slot) })
+        go (ends l ec ed et zc zd) = rw (et, zd) (record { early = omega (arith, s.some_slot); late = omega (arith, s.some_slot) })

@@ -10,72 +10,72 @@ use lib.ListN.{length}
 use borrow.Author.Tests.{eq-eqb, eqb-true, not-false}
 use Rattle.refusal.specs.declared.Verdict.{Verdict}
 use Rattle.refusal.specs.declared.Verdict.TheVariants.{Accepted, Refused}
-use Rattle.refusal.proofs.ChainLaws.{refuse-passed}
+use Rattle.refusal.proofs.ChainLaws.{refuse_passed}
 use Rattle.plan.specs.declared.Plan.{Plan}
-use Rattle.crossbar.specs.State.{storeFits}
+use Rattle.crossbar.specs.State.{store_fits}
 use Rattle.crossbar.specs.Valid.{valid_of}
-use Rattle.crossbar.specs.Load.{withPlans}
+use Rattle.crossbar.specs.Load.{with_plans}
 use Rattle.planpair.specs.Takeover.{replaced, cleared}
-use Rattle.crossbar.specs.Takeover.{takesOver, takeoverOf}
-use Rattle.crossbar.specs.Step.{slotMoves, slotSends, afterSlot, stepVerdict, step_of}
+use Rattle.crossbar.specs.Takeover.{takes_over, takeover_of}
+use Rattle.crossbar.specs.Step.{slot_moves, slot_sends, after_slot, step_verdict, step_of}
 use Rattle.crossbar.specs.declared.state.Switch.{Switch}
 use Rattle.crossbar.proofs.TakeoverLaws.{taken, not_taken}
-use Rattle.runs.specs.Event.{Lent, Event, stateAfter}
+use Rattle.runs.specs.Event.{Lent, Event, state_after}
 use Rattle.runs.specs.Event.Lent.{own, other}
 use Rattle.runs.specs.Event.Call.{step}
 use Rattle.runs.specs.Event.Event.{stepped}
 use Rattle.runs.specs.Run.{OtherLength, answered}
-use Rattle.runs.specs.Flow.{collect, total, left, moved, leftIn, movedIn}
+use Rattle.runs.specs.Flow.{collect, total, left, moved, left_in, moved_in}
 use Rattle.runs.proofs.LedgerLaws.{Ledger}
-use Rattle.runs.proofs.SoundLaws.{Sound, board-near, head_near}
+use Rattle.runs.proofs.SoundLaws.{Sound, board_near, head_near}
 use Rattle.runs.proofs.SlotLaws.{slot-room, slot-cells, slot-crossing, slot-empties, slot-share, slot-near}
 use Rattle.runs.proofs.StepLaws.{flow-slot, slot-sound, has_room}
 use Rattle.runs.proofs.TakeoverLaws.{OtherPlan, takeover-sound}
 use Rattle.runs.proofs.FlowPromiseLaws.{EventLaw}
-use Rattle.runs.proofs.QuietLaws.{refused-law, refused-step}
+use Rattle.runs.proofs.QuietLaws.{refused_law, refused_step}
 
 -- an accepted step of a state that no plan takes over any more
-abbrev slotEvent : Lent → Switch → List ℕ → Event
-slotEvent lent u store = stepped lent (record { verdict = Accepted; state = afterSlot u store; moves = (slotMoves u store).ports; sends = (slotSends u store).ports })
+abbrev slot_event : Lent → Switch → List ℕ → Event
+slot_event lent u store = stepped lent (record { verdict = Accepted; state = after_slot u store; moves = (slot_moves u store).ports; sends = (slot_sends u store).ports })
 
 module _ {u : Switch} {store : List ℕ} (ok : Sound u store) (lent : Lent) (i j : ℕ) (hi : i < u.running.ports) (hj : j < u.running.ports) where
   abbrev e : Event
-  e = slotEvent lent u store
+  e = slot_event lent u store
 
-  out : length (left i j (e ∷ [])) ≡ length (leftIn i j e)
+  out : length (left i j (e ∷ [])) ≡ length (left_in i j e)
   unfolding collect
-  out = ap length (append-nil (leftIn i j e))
+  out = ap length (append-nil (left_in i j e))
 
-  into : length (moved i j (e ∷ [])) ≡ length (movedIn i j e)
+  into : length (moved i j (e ∷ [])) ≡ length (moved_in i j e)
   unfolding collect
-  into = ap length (append-nil (movedIn i j e))
+  into = ap length (append-nil (moved_in i j e))
 
-  slot-ledger : Ledger u.running.ports u.running.frame i j u (afterSlot u store) (e ∷ [])
-  unfolding total afterSlot
+  slot-ledger : Ledger u.running.ports u.running.frame i j u (after_slot u store) (e ∷ [])
+  unfolding total after_slot
   slot-ledger =
       let f = flow-slot ok i j hi hj in
       record {
         cells = omega (arith, out, into, slot-cells f);
         empties = omega (arith, slot-empties f);
         share = λ a rate. rw (out, sym (rate.0 refl)) (omega (arith, slot-share f));
-        edges = λ a rate. rw (sym (rate.0 refl)) (inr (head_near ok i j hi hj, slot-near f, omega (arith, (board-near ok i j hi hj).early)));
+        edges = λ a rate. rw (sym (rate.0 refl)) (inr (head_near ok i j hi hj, slot-near f, omega (arith, (board_near ok i j hi hj).early)));
       }
 
   slot-law : EventLaw u.running.ports u.running.frame i j u store e
-  unfolding afterSlot
+  unfolding after_slot
   slot-law =
       let f = flow-slot ok i j hi hj in
       record {
         ledger = slot-ledger;
         room = slot-room f;
         crossing = slot-crossing f;
-        queue = append-nil _ ∙ f.board.from-queue;
+        queue = append-nil _ ∙ f.board.from_queue;
       }
 
 -- the plans of the state before a step don't stand in its law
-other-plans : {s : Switch} {store : List ℕ} {n T i j : ℕ} (running waiting : Plan) (waits : ℕ) {e : Event}
-    → EventLaw n T i j (withPlans s running waiting waits) store e → EventLaw n T i j s store e
-other-plans running waiting waits l =
+other_plans : {s : Switch} {store : List ℕ} {n T i j : ℕ} (running waiting : Plan) (waits : ℕ) {e : Event}
+    → EventLaw n T i j (with_plans s running waiting waits) store e → EventLaw n T i j s store e
+other_plans running waiting waits l =
     let b = l.ledger in
     record {
       ledger = record { cells = b.cells; empties = b.empties; share = b.share; edges = b.edges };
@@ -85,30 +85,30 @@ other-plans running waiting waits l =
     }
 
 module _ {s : Switch} {store : List ℕ} (ok : Sound s store) (valid : valid_of s ≡ true) where
-  accepted-own : stepVerdict s (length store) ≡ Accepted
-  unfolding stepVerdict storeFits
-  accepted-own = simp (valid, eq-eqb (length store) _ ok.store-size, has_room (takeover-sound ok).0)
+  accepted-own : step_verdict s (length store) ≡ Accepted
+  unfolding step_verdict store_fits
+  accepted-own = simp (valid, eq-eqb (length store) _ ok.store_size, has_room (takeover-sound ok).0)
 
-  refused-other : (l : List ℕ) → OtherLength l store → stepVerdict s (length l) ≡ Accepted → ⊥
-  unfolding stepVerdict storeFits
+  refused-other : (l : List ℕ) → OtherLength l store → step_verdict s (length l) ≡ Accepted → ⊥
+  unfolding step_verdict store_fits
   refused-other l ne e =
       let n = s.running.ports in
-      let first = refuse-passed (not (valid_of s)) _ _ e in
-      let second = refuse-passed (not (eqb (length l) (n * n * s.depth))) _ _ first.1 in
-      ne (eqb-true (length l) (n * n * s.depth) (not-false _ second.0) ∙ sym ok.store-size)
+      let first = refuse_passed (not (valid_of s)) _ _ e in
+      let second = refuse_passed (not (eqb (length l) (n * n * s.depth))) _ _ first.1 in
+      ne (eqb-true (length l) (n * n * s.depth) (not-false _ second.0) ∙ sym ok.store_size)
 
-  own-event : answered s store (step own) ≡ slotEvent own (takeoverOf s) store
+  own-event : answered s store (step own) ≡ slot_event own (takeover_of s) store
   unfolding step_of
   own-event = rw accepted-own refl
 
-  pub step-own-keeps : Sound (stateAfter (answered s store (step own))) store
+  pub step-own-keeps : Sound (state_after (answered s store (step own))) store
   step-own-keeps = rw own-event (slot-sound (takeover-sound ok).0)
 
-  pub step-other-keeps : (l : List ℕ) → OtherLength l store → Sound (stateAfter (answered s store (step (other l)))) store
+  pub step-other-keeps : (l : List ℕ) → OtherLength l store → Sound (state_after (answered s store (step (other l)))) store
   unfolding step_of
-  step-other-keeps l ne = go (stepVerdict s (length l)) refl
+  step-other-keeps l ne = go (step_verdict s (length l)) refl
     where
-      go : (v : Verdict) → stepVerdict s (length l) ≡ v → Sound (stateAfter (answered s store (step (other l)))) store
+      go : (v : Verdict) → step_verdict s (length l) ≡ v → Sound (state_after (answered s store (step (other l)))) store
       go Accepted e = absurd (refused-other l ne e)
       go (Refused r) e = rw e ok
 
@@ -117,19 +117,19 @@ module _ {s : Switch} {store : List ℕ} (ok : Sound s store) (valid : valid_of 
     Law e = EventLaw s.running.ports s.running.frame i j s store e
 
     abbrev ruling : Switch
-    ruling = withPlans s (replaced s.running s.waiting) (cleared s.waiting) 0
+    ruling = with_plans s (replaced s.running s.waiting) (cleared s.waiting) 0
 
     -- with the plan that rules the slot
-    ruled : Law (slotEvent own (takeoverOf s) store)
-    ruled = go (takesOver s) refl
+    ruled : Law (slot_event own (takeover_of s) store)
+    ruled = go (takes_over s) refl
       where
-        go : (b : Bool) → takesOver s ≡ b → Law (slotEvent own (takeoverOf s) store)
+        go : (b : Bool) → takes_over s ≡ b → Law (slot_event own (takeover_of s) store)
         go true h =
             let okNow : Sound ruling store = subst (λ (u : Switch). Sound u store) (taken s h) (takeover-sound ok).0 in
             let same : OtherPlan s ruling = subst (OtherPlan s) (taken s h) (takeover-sound ok).1 in
             rw (taken s h)
-            (subst₂ (λ (n T : ℕ). EventLaw n T i j s store (slotEvent own ruling store)) same.ports same.frame
-            (other-plans (replaced s.running s.waiting) (cleared s.waiting) 0
+            (subst₂ (λ (n T : ℕ). EventLaw n T i j s store (slot_event own ruling store)) same.ports same.frame
+            (other_plans (replaced s.running s.waiting) (cleared s.waiting) 0
             (slot-law okNow own i j (omega (arith, same.ports)) (omega (arith, same.ports)))))
         go false h = rw (not_taken s h) (slot-law ok own i j hi hj)
 
@@ -138,8 +138,8 @@ module _ {s : Switch} {store : List ℕ} (ok : Sound s store) (valid : valid_of 
 
     pub step-other-law : (l : List ℕ) → OtherLength l store → Law (answered s store (step (other l)))
     unfolding step_of
-    step-other-law l ne = go (stepVerdict s (length l)) refl
+    step-other-law l ne = go (step_verdict s (length l)) refl
       where
-        go : (v : Verdict) → stepVerdict s (length l) ≡ v → Law (answered s store (step (other l)))
+        go : (v : Verdict) → step_verdict s (length l) ≡ v → Law (answered s store (step (other l)))
         go Accepted e = absurd (refused-other l ne e)
-        go (Refused r) e = rw e (refused-law ok i j hi hj _ refl refl (refused-step i j (other l) r s))
+        go (Refused r) e = rw e (refused_law ok i j hi hj _ refl refl (refused_step i j (other l) r s))

@@ -11,19 +11,19 @@ use borrow.Author.Tests.{eqb-true}
 use Rattle.plan.specs.Desk.{row_of}
 use Rattle.plan.specs.Accept.{IsPlan}
 use Rattle.plan.specs.declared.Plan.{Plan}
-use Rattle.plan.proofs.BelowLaws.{and-true}
-use Rattle.multiplexer.specs.Window.{columnOf, FrameStart}
-use Rattle.multiplexer.proofs.PacedLaws.{Paced, paced-start, paced-early, paced-full}
-use Rattle.multiplexer.proofs.PortLaws.{row-length, row_fits, column-length, column_fits}
-use Rattle.side.specs.Choices.{noMultiplexer}
-use Rattle.planpair.specs.Rates.{planRates}
-use Rattle.crossbar.specs.State.{hasWaiting}
-use Rattle.crossbar.specs.Load.{withPlans}
+use Rattle.plan.proofs.BelowLaws.{and_true}
+use Rattle.multiplexer.specs.Window.{column_of, FrameStart}
+use Rattle.multiplexer.proofs.PacedLaws.{Paced, paced_start, paced-early, paced-full}
+use Rattle.multiplexer.proofs.PortLaws.{row_length, row_fits, column_length, column_fits}
+use Rattle.side.specs.Choices.{no_multiplexer}
+use Rattle.planpair.specs.Rates.{plan_rates}
+use Rattle.crossbar.specs.State.{has_waiting}
+use Rattle.crossbar.specs.Load.{with_plans}
 use Rattle.planpair.specs.Takeover.{replaced, cleared}
-use Rattle.crossbar.specs.Takeover.{takesOver, takeoverOf}
+use Rattle.crossbar.specs.Takeover.{takes_over, takeover_of}
 use Rattle.crossbar.specs.declared.state.Switch.{Switch}
-use Rattle.planpair.proofs.RateLaws.{overlaid-length}
-use Rattle.planpair.proofs.TakeoverLaws.{taken-rates}
+use Rattle.planpair.proofs.RateLaws.{overlaid_length}
+use Rattle.planpair.proofs.TakeoverLaws.{taken_rates}
 use Rattle.crossbar.proofs.TakeoverLaws.{taken, not_taken}
 use Rattle.runs.proofs.SoundLaws.{Sound, PlanIn}
 
@@ -37,7 +37,7 @@ begins {rs} {ks} {T} p m e =
           omega (arith, lt_of_mul-lt-mul_right T {m = get_or ks f 0} {n = 1} close);
     }
 
-module _ {s : Switch} {store : List ℕ} (ok : Sound s store) (zero-slot : s.slot ≡ 0) (waits : hasWaiting s ≡ true) where
+module _ {s : Switch} {store : List ℕ} (ok : Sound s store) (zero-slot : s.slot ≡ 0) (waits : has_waiting s ≡ true) where
   abbrev n : ℕ
   n = s.running.ports
 
@@ -45,54 +45,54 @@ module _ {s : Switch} {store : List ℕ} (ok : Sound s store) (zero-slot : s.slo
   ruling = replaced s.running s.waiting
 
   abbrev next : Switch
-  next = withPlans s ruling (cleared s.waiting) 0
+  next = with_plans s ruling (cleared s.waiting) 0
 
   here : PlanIn s.running.ports s.running.frame s.waiting
   here = ok.waiting waits
 
-  rates-are : planRates ruling ≡ planRates s.waiting
-  rates-are = taken-rates s.running s.waiting (rw here.ports ok.plan.few-ports) ok.running-size ok.waiting-size
+  rates-are : plan_rates ruling ≡ plan_rates s.waiting
+  rates-are = taken_rates s.running s.waiting (rw here.ports ok.plan.few_ports) ok.running_size ok.waiting_size
 
   -- the plan that takes over, with its own N and T
-  own-plan : IsPlan s.waiting.ports s.waiting.frame (planRates ruling)
+  own-plan : IsPlan s.waiting.ports s.waiting.frame (plan_rates ruling)
   own-plan =
       rw rates-are
-      (subst₂ (λ (m t : ℕ). IsPlan m t (planRates s.waiting)) (sym here.ports) (sym here.frame) here.plan)
+      (subst₂ (λ (m t : ℕ). IsPlan m t (plan_rates s.waiting)) (sym here.ports) (sym here.frame) here.plan)
 
-  board-starts : (i : ℕ) → i < s.waiting.ports → FrameStart (get_or s.fabric.boards i noMultiplexer).served s.waiting.ports
+  board-starts : (i : ℕ) → i < s.waiting.ports → FrameStart (get_or s.fabric.boards i no_multiplexer).served s.waiting.ports
   board-starts i hi =
       let below : i < n = omega (arith, here.ports) in
-      begins (subst (λ (t : ℕ). Paced (row_of (planRates s.running) n i) s.running.frame t (get_or s.fabric.boards i noMultiplexer).served) zero-slot (ok.boards i below))
-      _ (here.ports ∙ sym (row-length (planRates s.running) n i ok.plan.square below))
+      begins (subst (λ (t : ℕ). Paced (row_of (plan_rates s.running) n i) s.running.frame t (get_or s.fabric.boards i no_multiplexer).served) zero-slot (ok.boards i below))
+      _ (here.ports ∙ sym (row_length (plan_rates s.running) n i ok.plan.square below))
 
-  head-starts : (j : ℕ) → j < s.waiting.ports → FrameStart (get_or s.fabric.heads j noMultiplexer).served s.waiting.ports
-  head-starts j hj =
+  head_starts : (j : ℕ) → j < s.waiting.ports → FrameStart (get_or s.fabric.heads j no_multiplexer).served s.waiting.ports
+  head_starts j hj =
       let below : j < n = omega (arith, here.ports) in
-      begins (subst (λ (t : ℕ). Paced (columnOf (planRates s.running) n j) s.running.frame t (get_or s.fabric.heads j noMultiplexer).served) zero-slot (ok.heads j below))
-      _ (here.ports ∙ sym (column-length (planRates s.running) n j))
+      begins (subst (λ (t : ℕ). Paced (column_of (plan_rates s.running) n j) s.running.frame t (get_or s.fabric.heads j no_multiplexer).served) zero-slot (ok.heads j below))
+      _ (here.ports ∙ sym (column_length (plan_rates s.running) n j))
 
   sound-taken : Sound next store
   sound-taken =
       record {
         plan = own-plan;
         waiting = λ (h : false ≡ true). absurd (false≢true h);
-        some-depth = ok.some-depth;
-        few-cells = ok.few-cells;
+        some_depth = ok.some_depth;
+        few_cells = ok.few_cells;
         in_frame = rw here.frame ok.in_frame;
-        running-size = overlaid-length s.running.rates s.waiting.rates _ ∙ ok.running-size;
-        waiting-size = overlaid-length s.waiting.rates [] _ ∙ ok.waiting-size;
-        queues-size = ok.queues-size;
-        points-size = ok.points-size;
-        boards-size = ok.boards-size;
-        heads-size = ok.heads-size;
-        store-size = rw here.ports ok.store-size;
+        running_size = overlaid_length s.running.rates s.waiting.rates _ ∙ ok.running_size;
+        waiting_size = overlaid_length s.waiting.rates [] _ ∙ ok.waiting_size;
+        queues_size = ok.queues_size;
+        points_size = ok.points_size;
+        boards_size = ok.boards_size;
+        heads_size = ok.heads_size;
+        store_size = rw here.ports ok.store_size;
         place = rw here.ports ok.place;
         queued = rw here.ports ok.queued;
-        two-places = rw here.ports ok.two-places;
-        boards = λ i hi. rw zero-slot (paced-start (row_fits _ _ (planRates ruling) own-plan i hi)
-            (subst (FrameStart (get_or s.fabric.boards i noMultiplexer).served) (sym (row-length (planRates ruling) s.waiting.ports i own-plan.square hi)) (board-starts i hi)));
-        heads = λ j hj. rw zero-slot (paced-start (column_fits _ _ (planRates ruling) own-plan j hj)
-            (subst (FrameStart (get_or s.fabric.heads j noMultiplexer).served) (sym (column-length (planRates ruling) s.waiting.ports j)) (head-starts j hj)));
+        two_places = rw here.ports ok.two_places;
+        boards = λ i hi. rw zero-slot (paced_start (row_fits _ _ (plan_rates ruling) own-plan i hi)
+            (subst (FrameStart (get_or s.fabric.boards i no_multiplexer).served) (sym (row_length (plan_rates ruling) s.waiting.ports i own-plan.square hi)) (board-starts i hi)));
+        heads = λ j hj. rw zero-slot (paced_start (column_fits _ _ (plan_rates ruling) own-plan j hj)
+            (subst (FrameStart (get_or s.fabric.heads j no_multiplexer).served) (sym (column_length (plan_rates ruling) s.waiting.ports j)) (head_starts j hj)));
         balanced = rw here.ports ok.balanced;
       }
 
@@ -111,16 +111,16 @@ module _ {s : Switch} {store : List ℕ} (ok : Sound s store) where
   same : OtherPlan s s
   same = record { ports = refl; frame = refl; depth = refl; slot = refl; queues = refl; points = refl; boards = refl; heads = refl }
 
-  other : hasWaiting s ≡ true → OtherPlan s (withPlans s (replaced s.running s.waiting) (cleared s.waiting) 0)
+  other : has_waiting s ≡ true → OtherPlan s (with_plans s (replaced s.running s.waiting) (cleared s.waiting) 0)
   other w =
       let p = ok.waiting w in
       record { ports = p.ports; frame = p.frame; depth = refl; slot = refl; queues = refl; points = refl; boards = refl; heads = refl }
 
-  pub takeover-sound : Sound (takeoverOf s) store × OtherPlan s (takeoverOf s)
-  takeover-sound = go (takesOver s) refl
+  pub takeover-sound : Sound (takeover_of s) store × OtherPlan s (takeover_of s)
+  takeover-sound = go (takes_over s) refl
     where
-      go : (b : Bool) → takesOver s ≡ b → Sound (takeoverOf s) store × OtherPlan s (takeoverOf s)
+      go : (b : Bool) → takes_over s ≡ b → Sound (takeover_of s) store × OtherPlan s (takeover_of s)
       go true e =
-          let both = and-true (eqb s.slot 0) (hasWaiting s) e in
+          let both = and_true (eqb s.slot 0) (has_waiting s) e in
           rw (taken s e) (sound-taken ok (eqb-true s.slot 0 both.0) both.1, other both.1)
       go false e = rw (not_taken s e) (ok, same)

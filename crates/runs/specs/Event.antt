@@ -29,14 +29,14 @@ call_of (arrived lent i j cell r left) = arrive lent i j cell
 call_of (loaded n t rates r) = load n t rates
 
 -- the state that a call returned
-abbrev pub stateAfter : Event → Switch
-stateAfter (stepped lent r) = r.state
-stateAfter (arrived lent i j cell r left) = r.state
-stateAfter (loaded n t rates r) = r.state
+abbrev pub state_after : Event → Switch
+state_after (stepped lent r) = r.state
+state_after (arrived lent i j cell r left) = r.state
+state_after (loaded n t rates r) = r.state
 
 -- the run's store after a call that found it as `store`
-abbrev pub storeAfter : List ℕ → Event → List ℕ
-storeAfter store (stepped lent r) = store
-storeAfter store (arrived own i j cell r left) = left
-storeAfter store (arrived (other l) i j cell r left) = store
-storeAfter store (loaded n t rates r) = store
+abbrev pub store_after : List ℕ → Event → List ℕ
+store_after store (stepped lent r) = store
+store_after store (arrived own i j cell r left) = left
+store_after store (arrived (other l) i j cell r left) = store
+store_after store (loaded n t rates r) = store

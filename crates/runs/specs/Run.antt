@@ -4,12 +4,12 @@
 use Rattle.std.specs.Prelude.{ℕ, ◌≡◌, List, [], ◌∷◌, length}
 use Rattle.refusal.specs.declared.Verdict.TheVariants.{Accepted}
 use Rattle.crossbar.specs.Start.{Starts}
-use Rattle.crossbar.specs.Arrive.{Arrives, arriveOf}
+use Rattle.crossbar.specs.Arrive.{Arrives, arrive_of}
 use Rattle.crossbar.specs.Load.{Loads, load_of}
 use Rattle.crossbar.specs.Step.{Steps, step_of}
 use Rattle.crossbar.specs.declared.state.Switch.{Switch}
 use Rattle.crossbar.specs.declared.state.Reply.{Reply}
-use Rattle.runs.specs.Event.{Call, Event, call_of, stateAfter, storeAfter}
+use Rattle.runs.specs.Event.{Call, Event, call_of, state_after, store_after}
 use Rattle.runs.specs.Event.Lent.{own, other}
 use Rattle.runs.specs.Event.Call.{step, arrive, load}
 use Rattle.runs.specs.Event.Event.{stepped, arrived, loaded}
@@ -30,7 +30,7 @@ Happens s store (loaded n t rates r) = Loads s n t rates r
 -- events that happen one after the other
 abbrev pub Follow : Switch → List ℕ → List Event → Type 0
 Follow s store [] = Unit {0}
-Follow s store (e ∷ es) = Happens s store e × Follow (stateAfter e) (storeAfter store e) es
+Follow s store (e ∷ es) = Happens s store e × Follow (state_after e) (store_after store e) es
 
 pub record Run : Type 0 where
   -- the start: N, T, rates, Q, the store, and its answer
@@ -47,25 +47,25 @@ pub record Run : Type 0 where
   pub follow : Follow reply.state store events
 
 -- the state and the store after a list of events
-abbrev pub finalState : Switch → List Event → Switch
-finalState s [] = s
-finalState s (e ∷ es) = finalState (stateAfter e) es
+abbrev pub final_state : Switch → List Event → Switch
+final_state s [] = s
+final_state s (e ∷ es) = final_state (state_after e) es
 
-abbrev pub finalStore : List ℕ → List Event → List ℕ
-finalStore store [] = store
-finalStore store (e ∷ es) = finalStore (storeAfter store e) es
+abbrev pub final_store : List ℕ → List Event → List ℕ
+final_store store [] = store
+final_store store (e ∷ es) = final_store (store_after store e) es
 
 -- "The definitions of demand 2 are run from the same plan, Q and store on these calls alone".
 abbrev pub answered : Switch → List ℕ → Call → Event
 answered s store (step own) = stepped own (step_of s store)
 answered s store (step (other l)) = stepped (other l) (step_of s l)
-answered s store (arrive own i j cell) = let a = arriveOf s store i j cell in arrived own i j cell a.reply a.store
-answered s store (arrive (other l) i j cell) = let a = arriveOf s l i j cell in arrived (other l) i j cell a.reply a.store
+answered s store (arrive own i j cell) = let a = arrive_of s store i j cell in arrived own i j cell a.reply a.store
+answered s store (arrive (other l) i j cell) = let a = arrive_of s l i j cell in arrived (other l) i j cell a.reply a.store
 answered s store (load n t rates) = loaded n t rates (load_of s n t rates)
 
-unfoldable pub definedRun : Switch → List ℕ → List Call → List Event
-definedRun s store [] = []
-definedRun s store (c ∷ cs) = let e = answered s store c in e ∷ definedRun (stateAfter e) (storeAfter store e) cs
+unfoldable pub defined_run : Switch → List ℕ → List Call → List Event
+defined_run s store [] = []
+defined_run s store (c ∷ cs) = let e = answered s store c in e ∷ defined_run (state_after e) (store_after store e) cs
 
 -- the calls of a list of events
 unfoldable pub calls_of : List Event → List Call

@@ -6,30 +6,30 @@ use mathlib.Core.List.{List, [], ◌∷◌}
 use mathlib.Core.Option.{none, some}
 use native.Mathlib.Omega.{arith}
 use lib.ListN.{length, get_or, drop}
-use Rattle.plantext.specs.Bytes.{isDigit, digitOf}
+use Rattle.plantext.specs.Bytes.{is_digit, digit_of}
 use Rattle.plantext.proofs.PlaceLaws.{left-none, left-some}
-use Rattle.sheet.specs.Argument.{largestNumber, numberFrom, toldAs, argumentOf}
+use Rattle.sheet.specs.Argument.{largest_number, number_from, told_as, argument_of}
 use Rattle.sheet.specs.declared.argument.Argument.TheVariants.{Other}
 
-pub argument-none : (text : List ℕ) → length text ≡ 0 → argumentOf text ≡ Other
-unfolding argumentOf
-argument-none [] e = refl
-argument-none (b ∷ text) e = absurd (omega arith)
+pub argument_none : (text : List ℕ) → length text ≡ 0 → argument_of text ≡ Other
+unfolding argument_of
+argument_none [] e = refl
+argument_none (b ∷ text) e = absurd (omega arith)
 
-pub argument-some : (text : List ℕ) → (length text ≡ 0 → ⊥) → argumentOf text ≡ toldAs (numberFrom 0 text)
-unfolding argumentOf
-argument-some [] ne = absurd (ne refl)
-argument-some (b ∷ text) ne = refl
+pub argument_some : (text : List ℕ) → (length text ≡ 0 → ⊥) → argument_of text ≡ told_as (number_from 0 text)
+unfolding argument_of
+argument_some [] ne = absurd (ne refl)
+argument_some (b ∷ text) ne = refl
 
 module _ (text : List ℕ) (p value : ℕ) where
-  pub number-next : p < length text → isDigit (get_or text p 0) ≡ true → numberFrom value (drop p text) ≡ numberFrom (min (value * 10 + digitOf (get_or text p 0)) largestNumber) (drop (p + 1) text)
-  unfolding numberFrom
+  pub number-next : p < length text → is_digit (get_or text p 0) ≡ true → number_from value (drop p text) ≡ number_from (min (value * 10 + digit_of (get_or text p 0)) largest_number) (drop (p + 1) text)
+  unfolding number_from
   number-next h e = rw (left-some text p h, e) refl
 
-  pub number-stops : p < length text → isDigit (get_or text p 0) ≡ false → numberFrom value (drop p text) ≡ none
-  unfolding numberFrom
+  pub number-stops : p < length text → is_digit (get_or text p 0) ≡ false → number_from value (drop p text) ≡ none
+  unfolding number_from
   number-stops h e = rw (left-some text p h, e) refl
 
-  pub number-ends : length text ≤ p → numberFrom value (drop p text) ≡ some value
-  unfolding numberFrom
+  pub number-ends : length text ≤ p → number_from value (drop p text) ≡ some value
+  unfolding number_from
   number-ends h = rw (left-none text p h) refl

@@ -11,62 +11,62 @@ use Rattle.refusal.specs.declared.Refusal.{Refusal}
 use Rattle.refusal.specs.declared.Refusal.TheVariants.{PortsOutOfRange}
 use Rattle.refusal.specs.declared.Verdict.{Verdict}
 use Rattle.refusal.specs.declared.Verdict.TheVariants.{Accepted, Refused}
-use Rattle.plan.specs.Range.{mostFlows, portsInRange}
-use Rattle.plan.specs.Accept.{acceptOf}
-use Rattle.plan.proofs.LineLaws.{square-small}
-use Rattle.plan.proofs.RangeLaws.{ports-range}
-use Rattle.planfile.specs.Write.{fileOf, writingOf, writeOf}
-use Rattle.planfile.proofs.LayoutLaws.{zeros-taken}
-use Rattle.planfile.proofs.WriteLaws.{reads-back, write-accepted, refused-same, writing-within, file-short}
-use Rattle.plantext.specs.Read.{readTextOf}
-use Rattle.plantext.proofs.ReadLaws.{ports-decide, accepted-text, read-cut}
-use Rattle.sheet.specs.Sheet.{ratesRead, sheetOf, mostInput, SheetPlan}
+use Rattle.plan.specs.Range.{most_flows, ports_in_range}
+use Rattle.plan.specs.Accept.{accept_of}
+use Rattle.plan.proofs.LineLaws.{square_small}
+use Rattle.plan.proofs.RangeLaws.{ports_range}
+use Rattle.planfile.specs.Write.{file_of, writing_of, write_of}
+use Rattle.planfile.proofs.LayoutLaws.{zeros_taken}
+use Rattle.planfile.proofs.WriteLaws.{reads_back, write_accepted, refused_same, writing_within, file_short}
+use Rattle.plantext.specs.Read.{read_text_of}
+use Rattle.plantext.proofs.ReadLaws.{ports_decide, accepted_text, read_cut}
+use Rattle.sheet.specs.Sheet.{rates_read, sheet_of, most_input, SheetPlan}
 
 -- how many places are lent to the reader
-abbrev pub lentCount : ℕ → ℕ
-lentCount n = cond (portsInRange n) (n * n) 0
+abbrev pub lent_count : ℕ → ℕ
+lent_count n = cond (ports_in_range n) (n * n) 0
 
-pub lent-within : (n : ℕ) → lentCount n ≤ mostFlows
-lent-within n = go (portsInRange n) refl
+pub lent_within : (n : ℕ) → lent_count n ≤ most_flows
+lent_within n = go (ports_in_range n) refl
   where
-    go : (is : Bool) → portsInRange n ≡ is → lentCount n ≤ mostFlows
-    go true e = rw e (square-small n (ports-range n e).1)
+    go : (is : Bool) → ports_in_range n ≡ is → lent_count n ≤ most_flows
+    go true e = rw e (square_small n (ports_range n e).1)
     go false e = rw e (omega arith)
 
 -- what the reader answers for a part of an array of zeros decides
-module _ (n t : ℕ) (text : List ℕ) (verdict : Verdict) (list : List ℕ) (read : outcome verdict list ≡ readTextOf n t text (take (lentCount n) (replicate mostFlows 0))) where
-  sheet-by : sheetOf n t text ≡ writingOf verdict (fileOf n t list)
-  unfolding sheetOf
-  sheet-by = go (portsInRange n) refl
+module _ (n t : ℕ) (text : List ℕ) (verdict : Verdict) (list : List ℕ) (read : outcome verdict list ≡ read_text_of n t text (take (lent_count n) (replicate most_flows 0))) where
+  sheet-by : sheet_of n t text ≡ writing_of verdict (file_of n t list)
+  unfolding sheet_of
+  sheet-by = go (ports_in_range n) refl
     where
-      go : (is : Bool) → portsInRange n ≡ is → sheetOf n t text ≡ writingOf verdict (fileOf n t list)
+      go : (is : Bool) → ports_in_range n ≡ is → sheet_of n t text ≡ writing_of verdict (file_of n t list)
       go true e =
-          let zeros : take (lentCount n) (replicate {A = ℕ} mostFlows 0) ≡ replicate (n * n) 0 = rw e (zeros-taken n (ports-range n e).1) in
-          let same : ratesRead n t text ≡ outcome verdict list = sym (read ∙ ap (readTextOf n t text) zeros) in
+          let zeros : take (lent_count n) (replicate {A = ℕ} most_flows 0) ≡ replicate (n * n) 0 = rw e (zeros_taken n (ports_range n e).1) in
+          let same : rates_read n t text ≡ outcome verdict list = sym (read ∙ ap (read_text_of n t text) zeros) in
           rw same refl
       go false e =
-          let refused : verdict ≡ Refused PortsOutOfRange = ap (λ (o : Outcome). o.verdict) (read ∙ ports-decide n t text _ e) in
-          rw (ports-decide n t text (replicate (n * n) 0) e, refused) (refused-same PortsOutOfRange _ _)
+          let refused : verdict ≡ Refused PortsOutOfRange = ap (λ (o : Outcome). o.verdict) (read ∙ ports_decide n t text _ e) in
+          rw (ports_decide n t text (replicate (n * n) 0) e, refused) (refused_same PortsOutOfRange _ _)
 
   -- an accepted text is written
-  pub sheet-written : verdict ≡ Accepted → writeOf n t list ≡ sheetOf n t text
+  pub sheet-written : verdict ≡ Accepted → write_of n t list ≡ sheet_of n t text
   sheet-written e =
-      let outcome-verdict : (readTextOf n t text (take (lentCount n) (replicate mostFlows 0))).verdict ≡ Accepted = sym (ap (λ (o : Outcome). o.verdict) read) ∙ e in
-      let plan : acceptOf n t list ≡ Accepted = ap (λ (o : Outcome). acceptOf n t o.list) read ∙ (accepted-text n t text _ outcome-verdict).plan in
-      write-accepted n t list plan ∙ ap (λ (v : Verdict). writingOf v (fileOf n t list)) (sym e) ∙ sym sheet-by
+      let outcome-verdict : (read_text_of n t text (take (lent_count n) (replicate most_flows 0))).verdict ≡ Accepted = sym (ap (λ (o : Outcome). o.verdict) read) ∙ e in
+      let plan : accept_of n t list ≡ Accepted = ap (λ (o : Outcome). accept_of n t o.list) read ∙ (accepted_text n t text _ outcome-verdict).plan in
+      write_accepted n t list plan ∙ ap (λ (v : Verdict). writing_of v (file_of n t list)) (sym e) ∙ sym sheet-by
 
-  pub sheet-refused : (r : Refusal) → verdict ≡ Refused r → writingOf (Refused r) [] ≡ sheetOf n t text
-  sheet-refused r e = refused-same r [] (fileOf n t list) ∙ ap (λ (v : Verdict). writingOf v (fileOf n t list)) (sym e) ∙ sym sheet-by
+  pub sheet-refused : (r : Refusal) → verdict ≡ Refused r → writing_of (Refused r) [] ≡ sheet_of n t text
+  sheet-refused r e = refused_same r [] (file_of n t list) ∙ ap (λ (v : Verdict). writing_of v (file_of n t list)) (sym e) ∙ sym sheet-by
 
 -- the bytes of a file are within its array
-pub sheet-within : (n t : ℕ) (text : List ℕ) → (sheetOf n t text).length ≤ length (sheetOf n t text).bytes
-unfolding sheetOf
-sheet-within n t text = writing-within (ratesRead n t text).verdict _ (λ e. file-short n t _ (accepted-text n t text _ e).plan)
+pub sheet_within : (n t : ℕ) (text : List ℕ) → (sheet_of n t text).length ≤ length (sheet_of n t text).bytes
+unfolding sheet_of
+sheet_within n t text = writing_within (rates_read n t text).verdict _ (λ e. file_short n t _ (accepted_text n t text _ e).plan)
 
 -- what the program reads of a text is enough
-pub sheet-cut : (n t : ℕ) (text : List ℕ) → sheetOf n t (take mostInput text) ≡ sheetOf n t text
-unfolding sheetOf
-sheet-cut n t text = rw (read-cut n t mostInput text (replicate (n * n) 0) (omega arith)) refl
+pub sheet_cut : (n t : ℕ) (text : List ℕ) → sheet_of n t (take most_input text) ≡ sheet_of n t text
+unfolding sheet_of
+sheet_cut n t text = rw (read_cut n t most_input text (replicate (n * n) 0) (omega arith)) refl
 
-pub sheet-plan : SheetPlan
-sheet-plan n t text e = reads-back n t (ratesRead n t text).list (accepted-text n t text _ e).plan
+pub sheet_plan : SheetPlan
+sheet_plan n t text e = reads_back n t (rates_read n t text).list (accepted_text n t text _ e).plan

@@ -3,22 +3,22 @@ use Rattle.std.specs.Prelude.{ℕ, ◌+◌, ◌*◌, List, ◌≡◌, replicate}
 use Rattle.refusal.specs.Outcome.{Outcome}
 use Rattle.refusal.specs.declared.Verdict.TheVariants.{Accepted}
 use Rattle.planfile.specs.Read.{plan_of, reading_of, read_of}
-use Rattle.planfile.specs.Write.{fileOf, writingOf}
+use Rattle.planfile.specs.Write.{file_of, writing_of}
 use Rattle.planfile.specs.declared.writing.Writing.{Writing}
-use Rattle.plantext.specs.Read.{readTextOf, mostText}
+use Rattle.plantext.specs.Read.{read_text_of, most_text}
 
 -- what reading the text answers, and the rates that it writes to a list of zeros
-abbrev pub ratesRead : ℕ → ℕ → List ℕ → Outcome
-ratesRead n t text = readTextOf n t text (replicate (n * n) 0)
+abbrev pub rates_read : ℕ → ℕ → List ℕ → Outcome
+rates_read n t text = read_text_of n t text (replicate (n * n) 0)
 
 -- the file of these rates, if the text was accepted
-unfoldable pub sheetOf : ℕ → ℕ → List ℕ → Writing
-sheetOf n t text = let read = ratesRead n t text in writingOf read.verdict (fileOf n t read.list)
+unfoldable pub sheet_of : ℕ → ℕ → List ℕ → Writing
+sheet_of n t text = let read = rates_read n t text in writing_of read.verdict (file_of n t read.list)
 
 -- The bytes of a text past these don't change what is made of it (proofs/SheetLaws.antt, sheet-cut).
-abbrev pub mostInput : ℕ
-mostInput = mostText + 1
+abbrev pub most_input : ℕ
+most_input = most_text + 1
 
 -- The file of an accepted text is read as the plan of its rates (proofs/SheetLaws.antt, sheet-plan).
 abbrev pub SheetPlan : Type 0
-SheetPlan = (n t : ℕ) (text : List ℕ) → let read = ratesRead n t text in read.verdict ≡ Accepted → read_of (fileOf n t read.list) ≡ reading_of Accepted (plan_of n t read.list)
+SheetPlan = (n t : ℕ) (text : List ℕ) → let read = rates_read n t text in read.verdict ≡ Accepted → read_of (file_of n t read.list) ≡ reading_of Accepted (plan_of n t read.list)

@@ -1,6 +1,6 @@
 // The numbers that the program is called with.
 ghost use Rattle.std.specs.Prelude.{◌≡◌, min};
-ghost use Rattle.sheet.specs.Argument.{largestNumber, argumentOf};
+ghost use Rattle.sheet.specs.Argument.{largest_number, argument_of};
 
 use plantext::digit::{digit_of, is_digit};
 
@@ -14,7 +14,7 @@ pub enum Argument {
 const LARGEST_NUMBER: u64 = 4294967295;
 
 fn capped(value: u64) -> u64
-    ensures { result ≡ min value largestNumber }
+    ensures { result ≡ min value largest_number }
 {
     if value < LARGEST_NUMBER {
         return value;
@@ -24,7 +24,7 @@ fn capped(value: u64) -> u64
 
 // The number that an argument is, if it has digits and nothing else.
 pub fn read_argument(text: &[u8]) -> Argument
-    ensures { result ≡ argumentOf text.now }
+    ensures { result ≡ argument_of text.now }
 {
     if text.len() == 0 {
         return Argument::Other;

@@ -1,6 +1,6 @@
 // Reads a plan's text from standard input and writes the plan file to standard output. N and T are the arguments.
 ghost use Rattle.std.specs.Prelude.{◌≡◌, length};
-ghost use Rattle.sheet.specs.Sheet.{mostInput};
+ghost use Rattle.sheet.specs.Sheet.{most_input};
 
 use crate::argument::{Argument, read_argument};
 use crate::plan_file::plan_file;
@@ -20,7 +20,7 @@ const LONGEST_ARGUMENT: usize = 131072;
 const MOST_INPUT: usize = MOST_TEXT + 1;
 
 fn input_room() -> [u8; MOST_INPUT]
-    ensures { length result ≡ mostInput }
+    ensures { length result ≡ most_input }
 {
     [0; MOST_INPUT]
 }

@@ -1,7 +1,7 @@
 // The plan file of a text.
 ghost use Rattle.std.specs.Prelude.{cond, ◌≡◌, ◌*◌};
-ghost use Rattle.plan.specs.Range.{portsInRange};
-ghost use Rattle.sheet.specs.Sheet.{sheetOf};
+ghost use Rattle.plan.specs.Range.{ports_in_range};
+ghost use Rattle.sheet.specs.Sheet.{sheet_of};
 
 use plan::range::{MOST_FLOWS, ports_in_range};
 use planfile::writing::{Writing, no_file, write};
@@ -10,7 +10,7 @@ use refusal::Verdict;
 
 // The flows between N inputs and N outputs; none for an N that reading refuses.
 fn flows(n: usize) -> usize
-    ensures { result ≡ cond (portsInRange n) (n * n) 0 }
+    ensures { result ≡ cond (ports_in_range n) (n * n) 0 }
 {
     if !ports_in_range(n) {
         return 0;
@@ -19,7 +19,7 @@ fn flows(n: usize) -> usize
 }
 
 pub fn plan_file(n: usize, t: u32, text: &[u8]) -> Writing
-    ensures { result ≡ sheetOf n t text.now }
+    ensures { result ≡ sheet_of n t text.now }
 {
     let mut rates = [0u16; MOST_FLOWS];
     let count = flows(n);

@@ -7,49 +7,49 @@ use native.Mathlib.Numerals.{add-one}
 use native.Mathlib.Omega.{arith}
 use lib.ListN.{length, get_or, set, take, length-set, length-take}
 use lib.Seq.{get_or-set_same, get_or-set_other, get_or-take, ext_get_or}
-use Rattle.plan.specs.Range.{mostPorts, mostFlows}
+use Rattle.plan.specs.Range.{most_ports, most_flows}
 use Rattle.plan.specs.Lines.{flow_of}
-use Rattle.plan.specs.Desk.{row_of, deskOf}
-use Rattle.plan.proofs.DeskLaws.{desk-row}
-use Rattle.plan.proofs.LineLaws.{flow-below, square-small, flow-one}
-use Rattle.multiplexer.specs.Window.{columnOf}
-use Rattle.multiplexer.proofs.PortLaws.{row-length, row-rate, column-length, column-rate}
-use Rattle.side.specs.Columns.{transposedRow, transposed}
-use Rattle.side.proofs.PlaceLaws.{flow-small}
+use Rattle.plan.specs.Desk.{row_of, desk_of}
+use Rattle.plan.proofs.DeskLaws.{desk_row}
+use Rattle.plan.proofs.LineLaws.{flow_below, square_small, flow_one}
+use Rattle.multiplexer.specs.Window.{column_of}
+use Rattle.multiplexer.proofs.PortLaws.{row_length, row_rate, column_length, column_rate}
+use Rattle.side.specs.Columns.{transposed_row, transposed}
+use Rattle.side.proofs.PlaceLaws.{flow_small}
 use Rattle.side.proofs.TouchLaws.{untouched, settled}
 
 -- One column becomes a row.
 module _ (rates : List ℕ) (n j : ℕ) (array : List ℕ) where
-  pub transpose-row-step : (m k at : ℕ) (f : List ℕ) → f ≡ transposedRow rates n j array m → k ≡ flow_of n j m → at ≡ flow_of n m j
-      → set f k (get_or rates at 0) ≡ transposedRow rates n j array (m + 1)
-  unfolding transposedRow
+  pub transpose-row-step : (m k at : ℕ) (f : List ℕ) → f ≡ transposed_row rates n j array m → k ≡ flow_of n j m → at ≡ flow_of n m j
+      → set f k (get_or rates at 0) ≡ transposed_row rates n j array (m + 1)
+  unfolding transposed_row
   transpose-row-step m k at f e ek ea = rw (add-one, ea, ek, e)
 
-  row-array-length : (m : ℕ) → length (transposedRow rates n j array m) ≡ length array
-  unfolding transposedRow
+  row-array-length : (m : ℕ) → length (transposed_row rates n j array m) ≡ length array
+  unfolding transposed_row
   row-array-length zero = refl
-  row-array-length (suc m) = length-set (transposedRow rates n j array m) (flow_of n j m) _ ∙ row-array-length m
+  row-array-length (suc m) = length-set (transposed_row rates n j array m) (flow_of n j m) _ ∙ row-array-length m
 
   abbrev place : ℕ → ℕ → ℕ
-  place m k = get_or (transposedRow rates n j array m) k 0
+  place m k = get_or (transposed_row rates n j array m) k 0
 
   place_other : (m k : ℕ) → (k ≡ flow_of n j m → ⊥) → place (suc m) k ≡ place m k
-  unfolding transposedRow
-  place_other m k h = get_or-set_other (transposedRow rates n j array m) (flow_of n j m) k _ 0 h
+  unfolding transposed_row
+  place_other m k h = get_or-set_other (transposed_row rates n j array m) (flow_of n j m) k _ 0 h
 
   row-elsewhere : (m k : ℕ) → ((i : ℕ) → i < m → k ≡ flow_of n j i → ⊥) → place m k ≡ get_or array k 0
-  unfolding transposedRow
+  unfolding transposed_row
   row-elsewhere m k h = untouched place (λ m k. k ≡ flow_of n j m) place_other m k h
 
   row-there : (i : ℕ) → i < n → flow_of n j i < length array → place n (flow_of n j i) ≡ get_or rates (flow_of n i j) 0
-  unfolding transposedRow
+  unfolding transposed_row
   row-there i l small =
       settled place (λ m k. k ≡ flow_of n j m) place_other n i (flow_of n j i) l (λ q lo hi e. omega arith)
-      ∙ get_or-set_same (transposedRow rates n j array i) (flow_of n j i) _ 0 (omega (arith, row-array-length i))
+      ∙ get_or-set_same (transposed_row rates n j array i) (flow_of n j i) _ 0 (omega (arith, row-array-length i))
 
 -- All columns become rows.
 module _ (rates : List ℕ) (n : ℕ) (array : List ℕ) where
-  pub transpose-step : (m : ℕ) (f g : List ℕ) → f ≡ transposed rates n array m → g ≡ transposedRow rates n m f n → g ≡ transposed rates n array (m + 1)
+  pub transpose-step : (m : ℕ) (f g : List ℕ) → f ≡ transposed rates n array m → g ≡ transposed_row rates n m f n → g ≡ transposed rates n array (m + 1)
   unfolding transposed
   transpose-step m f g ef eg = rw (add-one, ← ef) eg
 
@@ -70,29 +70,29 @@ module _ (rates : List ℕ) (n : ℕ) (array : List ℕ) where
   abbrev pub columns : List ℕ
   columns = take (n * n) (transposed rates n array n)
 
-  module _ (few : n ≤ mostPorts) (full : length array ≡ mostFlows) where
+  module _ (few : n ≤ most_ports) (full : length array ≡ most_flows) where
     transposed-at : (i j : ℕ) → i < n → j < n → get_or (transposed rates n array n) (flow_of n j i) 0 ≡ get_or rates (flow_of n i j) 0
     unfolding transposed
     transposed-at i j hi hj =
-        settled (λ m k. get_or (transposed rates n array m) k 0) in_row rows_other n j (flow_of n j i) hj (λ q lo hq (g, l, e). omega (arith, (flow-one n j i q g hi l e).0))
-        ∙ row-there rates n j (transposed rates n array j) i hi (omega (arith, transposed-length j, flow-small n j i few hj hi))
+        settled (λ m k. get_or (transposed rates n array m) k 0) in_row rows_other n j (flow_of n j i) hj (λ q lo hq (g, l, e). omega (arith, (flow_one n j i q g hi l e).0))
+        ∙ row-there rates n j (transposed rates n array j) i hi (omega (arith, transposed-length j, flow_small n j i few hj hi))
 
     pub columns-length : length columns ≡ n * n
-    columns-length = omega (arith, length-take (n * n) (transposed rates n array n), transposed-length n, square-small n few)
+    columns-length = omega (arith, length-take (n * n) (transposed rates n array n), transposed-length n, square_small n few)
 
-    columns-row : (j : ℕ) → j < n → row_of columns n j ≡ columnOf rates n j
+    columns-row : (j : ℕ) → j < n → row_of columns n j ≡ column_of rates n j
     columns-row j hj =
-        ext_get_or 0 (row_of columns n j) (columnOf rates n j)
-        (row-length columns n j columns-length hj ∙ sym (column-length rates n j))
+        ext_get_or 0 (row_of columns n j) (column_of rates n j)
+        (row_length columns n j columns-length hj ∙ sym (column_length rates n j))
         (λ i l.
-        let hi : i < n = omega (arith, row-length columns n j columns-length hj) in
-        row-rate columns n j i hi
-        ∙ get_or-take (n * n) (transposed rates n array n) (flow_of n j i) 0 (flow-below n j i hj hi)
+        let hi : i < n = omega (arith, row_length columns n j columns-length hj) in
+        row_rate columns n j i hi
+        ∙ get_or-take (n * n) (transposed rates n array n) (flow_of n j i) 0 (flow_below n j i hj hi)
         ∙ transposed-at i j hi hj
-        ∙ sym (column-rate rates n i j hi))
+        ∙ sym (column_rate rates n i j hi))
 
-    pub desk-columns : (j : ℕ) → j < n → deskOf columns columns n j false ≡ columnOf rates n j
-    desk-columns j hj = desk-row columns columns n j false few hj columns-length columns-length ∙ columns-row j hj
+    pub desk-columns : (j : ℕ) → j < n → desk_of columns columns n j false ≡ column_of rates n j
+    desk-columns j hj = desk_row columns columns n j false few hj columns-length columns-length ∙ columns-row j hj
 
-pub columns-full : (rates array list : List ℕ) (n : ℕ) → list ≡ transposed rates n array n → length list ≡ length array
-columns-full rates array list n e = ap length e ∙ transposed-length rates n array n
+pub columns_full : (rates array list : List ℕ) (n : ℕ) → list ≡ transposed rates n array n → length list ≡ length array
+columns_full rates array list n e = ap length e ∙ transposed-length rates n array n

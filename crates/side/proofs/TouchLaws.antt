@@ -4,7 +4,7 @@ use Prim.Native.Nat.{ℕ, zero, suc, ◌<◌, ◌≤◌}
 use mathlib.Core.Path.{◌≡◌, refl, ◌∙◌}
 use mathlib.Core.Logic.{⊎_elim}
 use native.Mathlib.Omega.{arith}
-use Rattle.plan.proofs.BelowLaws.{below-or-last}
+use Rattle.plan.proofs.BelowLaws.{below_or_last}
 
 module _ {A : Type 0} (F : ℕ → ℕ → A) (touches : ℕ → ℕ → Type 0) (other : (m k : ℕ) → (touches m k → ⊥) → F (suc m) k ≡ F m k) where
   pub untouched : (m k : ℕ) → ((p : ℕ) → p < m → touches p k → ⊥) → F m k ≡ F zero k
@@ -17,7 +17,7 @@ module _ {A : Type 0} (F : ℕ → ℕ → A) (touches : ℕ → ℕ → Type 0)
       ⊎_elim
       (λ (b : p < m). other m k (h m b (omega arith)) ∙ settled m p k b (λ q lo hi. h q lo (omega arith)))
       (λ (b : p ≡ m). rw b refl)
-      (below-or-last p m l)
+      (below_or_last p m l)
 
 -- Step m works on place m alone.
 module _ {A : Type 0} (F : ℕ → ℕ → A) (other : (m k : ℕ) → (k ≡ m → ⊥) → F (suc m) k ≡ F m k) where

@@ -1,7 +1,7 @@
 // The slot of all ports of one side: whom each one serves, and its counts afterwards.
 ghost use Rattle.std.specs.Prelude.{◌≡◌, ◌≤◌};
-ghost use Rattle.plan.specs.Range.{mostPorts};
-ghost use Rattle.plan.specs.Desk.{deskOf};
+ghost use Rattle.plan.specs.Range.{most_ports};
+ghost use Rattle.plan.specs.Desk.{desk_of};
 ghost use Rattle.side.specs.Choices.{ChoosesPort, choice_of, ServedAs};
 
 use multiplexer::deadlines::deadline_table;
@@ -50,8 +50,8 @@ pub fn serve_all<'a>(
     t: u32,
     slot: u32,
 ) -> Side
-    requires { n ≤ mostPorts }
-    ensures { ServedAs (λ p. deskOf running.now waiting.now n p takeover) ports t slot n result }
+    requires { n ≤ most_ports }
+    ensures { ServedAs (λ p. desk_of running.now waiting.now n p takeover) ports t slot n result }
 {
     let idle = [Turn {
         serves: false,

@@ -1,15 +1,15 @@
 // The columns of a list of rates as rows, by which heads choose as boards do.
 ghost use Rattle.std.specs.Prelude.{◌≡◌, ◌*◌, ◌<◌, ◌≤◌, length};
-ghost use Rattle.plan.specs.Range.{mostPorts};
-ghost use Rattle.side.specs.Columns.{transposedRow, transposed};
+ghost use Rattle.plan.specs.Range.{most_ports};
+ghost use Rattle.side.specs.Columns.{transposed_row, transposed};
 
 use crate::places::flow_place;
 use plan::range::MOST_FLOWS;
 
 // Column j of the rates becomes row j of the array.
 fn transpose_row(rates: &[u16], n: usize, j: usize, array: &mut [u16; MOST_FLOWS])
-    requires { (n ≤ mostPorts) × (j < n) × (length rates.now ≡ n * n) }
-    ensures { array.new ≡ transposedRow rates.now n j array.old n }
+    requires { (n ≤ most_ports) × (j < n) × (length rates.now ≡ n * n) }
+    ensures { array.new ≡ transposed_row rates.now n j array.old n }
 {
     for i in 0..n {
         let k = flow_place(n, j, i);
@@ -19,7 +19,7 @@ fn transpose_row(rates: &[u16], n: usize, j: usize, array: &mut [u16; MOST_FLOWS
 
 // The columns of the rates become the rows of the array.
 pub fn transpose(rates: &[u16], n: usize, array: &mut [u16; MOST_FLOWS])
-    requires { (n ≤ mostPorts) × (length rates.now ≡ n * n) }
+    requires { (n ≤ most_ports) × (length rates.now ≡ n * n) }
     ensures { array.new ≡ transposed rates.now n array.old n }
 {
     for j in 0..n {

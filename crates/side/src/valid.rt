@@ -1,8 +1,8 @@
 // Number 12's rules for the service counts.
 ghost use Rattle.std.specs.Prelude.{◌≡◌, ◌*◌, ◌≤◌, length};
-ghost use Rattle.plan.specs.Range.{mostPorts};
+ghost use Rattle.plan.specs.Range.{most_ports};
 ghost use Rattle.plan.specs.Lines.{LinesIn};
-ghost use Rattle.side.specs.Valid.{portsValid, countsValid};
+ghost use Rattle.side.specs.Valid.{ports_valid, counts_valid};
 
 use multiplexer::Multiplexer;
 use plan::range::MOST_PORTS;
@@ -17,7 +17,7 @@ fn ports_valid(
     slot: u32,
 ) -> bool
     requires { LinesIn rates.now n across along }
-    ensures { result ≡ portsValid rates.now ports n across along slot }
+    ensures { result ≡ ports_valid rates.now ports n across along slot }
 {
     for p in 0..n {
         let port = ports[p];
@@ -36,8 +36,8 @@ pub fn counts_valid(
     n: usize,
     slot: u32,
 ) -> bool
-    requires { (n ≤ mostPorts) × (length rates.now ≡ n * n) }
-    ensures { result ≡ countsValid rates.now boards heads n slot }
+    requires { (n ≤ most_ports) × (length rates.now ≡ n * n) }
+    ensures { result ≡ counts_valid rates.now boards heads n slot }
 {
     if !ports_valid(rates, boards, n, n, 1, slot) {
         return false;

@@ -2,26 +2,26 @@
 use Prim.Native.Nat.{ℕ}
 use mathlib.Core.List.{List, [], ◌∷◌, ◌++◌}
 use mathlib.Core.Path.{◌≡◌, refl}
-use Rattle.plan.specs.Below.{listBelow}
-use Rattle.plan.specs.Lines.{rowSum, column_sum}
-use Rattle.plan.specs.Range.{portsInRange, frameInRange}
-use Rattle.plan.specs.Accept.{acceptOf}
-use Rattle.planfile.specs.Layout.{isMarked, ratesOf, paddedTo}
-use Rattle.planfile.specs.Read.{verdictOf, read_of}
-use Rattle.multiplexer.specs.Choose.{eligible, roundedUp, better, bestOf, chooseOf}
-use Rattle.multiplexer.specs.Count.{countsAfter, clearedBelow}
-use Rattle.meter.specs.Answer.{coverVerdict}
-use Rattle.meter.specs.Cover.{coverAt}
-use Rattle.meter.specs.Record.{recordFrom}
-use Rattle.meter.specs.Search.{orLess, orMore, kept_to, coverOf}
-use Rattle.console.specs.Text.{digitsOf}
-use Rattle.console.specs.TextBelow.{textBelow}
-use Rattle.console.specs.Refused.{refusalLineOf}
-use Rattle.smoothness.specs.Printout.{headerText, line_of, counts, flowLinesOf, threeFramesOf, headLinesOf, printoutOf}
+use Rattle.plan.specs.Below.{list_below}
+use Rattle.plan.specs.Lines.{row_sum, column_sum}
+use Rattle.plan.specs.Range.{ports_in_range, frame_in_range}
+use Rattle.plan.specs.Accept.{accept_of}
+use Rattle.planfile.specs.Layout.{is_marked, rates_of, padded_to}
+use Rattle.planfile.specs.Read.{verdict_of, read_of}
+use Rattle.multiplexer.specs.Choose.{eligible, rounded_up, better, best_of, choose_of}
+use Rattle.multiplexer.specs.Count.{counts_after, cleared_below}
+use Rattle.meter.specs.Answer.{cover_verdict}
+use Rattle.meter.specs.Cover.{cover_at}
+use Rattle.meter.specs.Record.{record_from}
+use Rattle.meter.specs.Search.{or_less, or_more, kept_to, cover_of}
+use Rattle.console.specs.Text.{digits_of}
+use Rattle.console.specs.TextBelow.{text_below}
+use Rattle.console.specs.Refused.{refusal_line_of}
+use Rattle.smoothness.specs.Printout.{header_text, line_of, counts, flow_lines_of, three_frames_of, head_lines_of, printout_of}
 
 -- one output, T = 4, and a rate of 3: T / 4 is 1 again
-abbrev oneOutput : List ℕ
-oneOutput = 0x4c ∷ 0x53 ∷ 0x50 ∷ 0x01 ∷ 0x00 ∷ 0x01 ∷ 0x04 ∷ 0x00 ∷ 0x03 ∷ 0x00 ∷ []
+abbrev one_output : List ℕ
+one_output = 0x4c ∷ 0x53 ∷ 0x50 ∷ 0x01 ∷ 0x00 ∷ 0x01 ∷ 0x04 ∷ 0x00 ∷ 0x03 ∷ 0x00 ∷ []
 
 -- 0 0 3 1 0 0 1 1
 abbrev in1 : List ℕ
@@ -35,43 +35,43 @@ in2 = 48 ∷ 32 ∷ 48 ∷ 32 ∷ 51 ∷ 32 ∷ 50 ∷ 32 ∷ 49 ∷ 32 ∷ 49 �
 abbrev in4 : List ℕ
 in4 = 48 ∷ 32 ∷ 48 ∷ 32 ∷ 51 ∷ 32 ∷ 52 ∷ 32 ∷ 51 ∷ 32 ∷ 50 ∷ 32 ∷ 51 ∷ 32 ∷ 52 ∷ 10 ∷ []
 
-one-output : printoutOf oneOutput ≡ headerText ++ in1 ++ in2 ++ in4
-unfolding printoutOf read_of verdictOf isMarked ratesOf paddedTo acceptOf portsInRange frameInRange rowSum column_sum listBelow headLinesOf threeFramesOf recordFrom chooseOf bestOf better eligible roundedUp countsAfter clearedBelow flowLinesOf counts coverOf coverVerdict coverAt kept_to orLess orMore line_of textBelow digitsOf
-one-output = refl
+one_output_lem : printout_of one_output ≡ header_text ++ in1 ++ in2 ++ in4
+unfolding printout_of read_of verdict_of is_marked rates_of padded_to accept_of ports_in_range frame_in_range row_sum column_sum list_below head_lines_of three_frames_of record_from choose_of best_of better eligible rounded_up counts_after cleared_below flow_lines_of counts cover_of cover_verdict cover_at kept_to or_less or_more line_of text_below digits_of
+one_output_lem = refl
 
 -- the scope's file, two of each and T = 2: T / 4 is 0, T / 2 is 1 again, and flow (1, 1) has rate 0
-abbrev scopeFile : List ℕ
-scopeFile = 0x4c ∷ 0x53 ∷ 0x50 ∷ 0x01 ∷ 0x00 ∷ 0x02 ∷ 0x02 ∷ 0x00 ∷ 0x01 ∷ 0x00 ∷ 0x01 ∷ 0x00 ∷ 0x01 ∷ 0x00 ∷ 0x00 ∷ 0x00 ∷ []
+abbrev scope_file : List ℕ
+scope_file = 0x4c ∷ 0x53 ∷ 0x50 ∷ 0x01 ∷ 0x00 ∷ 0x02 ∷ 0x02 ∷ 0x00 ∷ 0x01 ∷ 0x00 ∷ 0x01 ∷ 0x00 ∷ 0x01 ∷ 0x00 ∷ 0x00 ∷ 0x00 ∷ []
 
 -- 0 0 1 1 0 0 1 1
-abbrev out0in0-1 : List ℕ
-out0in0-1 = 48 ∷ 32 ∷ 48 ∷ 32 ∷ 49 ∷ 32 ∷ 49 ∷ 32 ∷ 48 ∷ 32 ∷ 48 ∷ 32 ∷ 49 ∷ 32 ∷ 49 ∷ 10 ∷ []
+abbrev out0in0_1 : List ℕ
+out0in0_1 = 48 ∷ 32 ∷ 48 ∷ 32 ∷ 49 ∷ 32 ∷ 49 ∷ 32 ∷ 48 ∷ 32 ∷ 48 ∷ 32 ∷ 49 ∷ 32 ∷ 49 ∷ 10 ∷ []
 
 -- 0 0 1 2 1 0 1 2
-abbrev out0in0-2 : List ℕ
-out0in0-2 = 48 ∷ 32 ∷ 48 ∷ 32 ∷ 49 ∷ 32 ∷ 50 ∷ 32 ∷ 49 ∷ 32 ∷ 48 ∷ 32 ∷ 49 ∷ 32 ∷ 50 ∷ 10 ∷ []
+abbrev out0in0_2 : List ℕ
+out0in0_2 = 48 ∷ 32 ∷ 48 ∷ 32 ∷ 49 ∷ 32 ∷ 50 ∷ 32 ∷ 49 ∷ 32 ∷ 48 ∷ 32 ∷ 49 ∷ 32 ∷ 50 ∷ 10 ∷ []
 
 -- 0 1 1 1 0 0 1 1
-abbrev out0in1-1 : List ℕ
-out0in1-1 = 48 ∷ 32 ∷ 49 ∷ 32 ∷ 49 ∷ 32 ∷ 49 ∷ 32 ∷ 48 ∷ 32 ∷ 48 ∷ 32 ∷ 49 ∷ 32 ∷ 49 ∷ 10 ∷ []
+abbrev out0in1_1 : List ℕ
+out0in1_1 = 48 ∷ 32 ∷ 49 ∷ 32 ∷ 49 ∷ 32 ∷ 49 ∷ 32 ∷ 48 ∷ 32 ∷ 48 ∷ 32 ∷ 49 ∷ 32 ∷ 49 ∷ 10 ∷ []
 
 -- 0 1 1 2 1 0 1 2
-abbrev out0in1-2 : List ℕ
-out0in1-2 = 48 ∷ 32 ∷ 49 ∷ 32 ∷ 49 ∷ 32 ∷ 50 ∷ 32 ∷ 49 ∷ 32 ∷ 48 ∷ 32 ∷ 49 ∷ 32 ∷ 50 ∷ 10 ∷ []
+abbrev out0in1_2 : List ℕ
+out0in1_2 = 48 ∷ 32 ∷ 49 ∷ 32 ∷ 49 ∷ 32 ∷ 50 ∷ 32 ∷ 49 ∷ 32 ∷ 48 ∷ 32 ∷ 49 ∷ 32 ∷ 50 ∷ 10 ∷ []
 
 -- 1 0 1 1 0 0 1 1
-abbrev out1in0-1 : List ℕ
-out1in0-1 = 49 ∷ 32 ∷ 48 ∷ 32 ∷ 49 ∷ 32 ∷ 49 ∷ 32 ∷ 48 ∷ 32 ∷ 48 ∷ 32 ∷ 49 ∷ 32 ∷ 49 ∷ 10 ∷ []
+abbrev out1in0_1 : List ℕ
+out1in0_1 = 49 ∷ 32 ∷ 48 ∷ 32 ∷ 49 ∷ 32 ∷ 49 ∷ 32 ∷ 48 ∷ 32 ∷ 48 ∷ 32 ∷ 49 ∷ 32 ∷ 49 ∷ 10 ∷ []
 
 -- 1 0 1 2 1 0 1 2
-abbrev out1in0-2 : List ℕ
-out1in0-2 = 49 ∷ 32 ∷ 48 ∷ 32 ∷ 49 ∷ 32 ∷ 50 ∷ 32 ∷ 49 ∷ 32 ∷ 48 ∷ 32 ∷ 49 ∷ 32 ∷ 50 ∷ 10 ∷ []
+abbrev out1in0_2 : List ℕ
+out1in0_2 = 49 ∷ 32 ∷ 48 ∷ 32 ∷ 49 ∷ 32 ∷ 50 ∷ 32 ∷ 49 ∷ 32 ∷ 48 ∷ 32 ∷ 49 ∷ 32 ∷ 50 ∷ 10 ∷ []
 
-scope-file : printoutOf scopeFile ≡ headerText ++ out0in0-1 ++ out0in0-2 ++ out0in1-1 ++ out0in1-2 ++ out1in0-1 ++ out1in0-2
-unfolding printoutOf read_of verdictOf isMarked ratesOf paddedTo acceptOf portsInRange frameInRange rowSum column_sum listBelow headLinesOf threeFramesOf recordFrom chooseOf bestOf better eligible roundedUp countsAfter clearedBelow flowLinesOf counts coverOf coverVerdict coverAt kept_to orLess orMore line_of textBelow digitsOf
-scope-file = refl
+scope_file_lem : printout_of scope_file ≡ header_text ++ out0in0_1 ++ out0in0_2 ++ out0in1_1 ++ out0in1_2 ++ out1in0_1 ++ out1in0_2
+unfolding printout_of read_of verdict_of is_marked rates_of padded_to accept_of ports_in_range frame_in_range row_sum column_sum list_below head_lines_of three_frames_of record_from choose_of best_of better eligible rounded_up counts_after cleared_below flow_lines_of counts cover_of cover_verdict cover_at kept_to or_less or_more line_of text_below digits_of
+scope_file_lem = refl
 
 -- refused 15
-empty-file : printoutOf [] ≡ 114 ∷ 101 ∷ 102 ∷ 117 ∷ 115 ∷ 101 ∷ 100 ∷ 32 ∷ 49 ∷ 53 ∷ 10 ∷ []
-unfolding printoutOf read_of verdictOf refusalLineOf digitsOf
-empty-file = refl
+empty_file : printout_of [] ≡ 114 ∷ 101 ∷ 102 ∷ 117 ∷ 115 ∷ 101 ∷ 100 ∷ 32 ∷ 49 ∷ 53 ∷ 10 ∷ []
+unfolding printout_of read_of verdict_of refusal_line_of digits_of
+empty_file = refl

@@ -10,19 +10,19 @@ use lib.Dec.{ltb, eqb}
 use lib.ListN.{get_or}
 use borrow.Author.Tests.{lt-ltb, le-ltb, ltb-true, eq-eqb, ne_eqb}
 use Rattle.plan.specs.Below.{all_below}
-use Rattle.plan.proofs.BelowLaws.{and-true, all-fails}
-use Rattle.smoothness.specs.Printout.{stretchesOf, counts}
+use Rattle.plan.proofs.BelowLaws.{and_true, all_fails}
+use Rattle.smoothness.specs.Printout.{stretches_of, counts}
 
 -- the length at place k, of a frame of T slots
 abbrev pub length_at : ℕ → ℕ → ℕ
-length_at T k = get_or (stretchesOf T) k 0
+length_at T k = get_or (stretches_of T) k 0
 
-pub length-within : (T k : ℕ) → 1 ≤ T → length_at T k ≤ T
-length-within T zero some = some
-length-within T (suc zero) some = div-le_self T 4
-length-within T (suc (suc zero)) some = div-le_self T 2
-length-within T (suc (suc (suc zero))) some = omega arith
-length-within T (suc (suc (suc (suc k)))) some = omega arith
+pub length_within : (T k : ℕ) → 1 ≤ T → length_at T k ≤ T
+length_within T zero some = some
+length_within T (suc zero) some = div-le_self T 4
+length_within T (suc (suc zero)) some = div-le_self T 2
+length_within T (suc (suc (suc zero))) some = omega arith
+length_within T (suc (suc (suc (suc k)))) some = omega arith
 
 module _ (lengths : List ℕ) (k : ℕ) where
   abbrev l : ℕ
@@ -46,7 +46,7 @@ module _ (lengths : List ℕ) (k : ℕ) where
   module _ (some : 0 < l) where
     pub seen-before : (m : ℕ) → m < k → get_or lengths m 0 ≡ l → counts lengths k ≡ false
     unfolding counts
-    seen-before m b e = rw (lt-ltb 0 l some, all-fails other k m b (rw (eq-eqb (get_or lengths m 0) l e) refl)) refl
+    seen-before m b e = rw (lt-ltb 0 l some, all_fails other k m b (rw (eq-eqb (get_or lengths m 0) l e) refl)) refl
 
     pub new-counts : NewTo k → counts lengths k ≡ true
     unfolding counts
@@ -54,4 +54,4 @@ module _ (lengths : List ℕ) (k : ℕ) where
 
   pub counts_some : counts lengths k ≡ true → 1 ≤ l
   unfolding counts
-  counts_some e = ltb-true 0 l (and-true (ltb 0 l) (all_below other k) e).0
+  counts_some e = ltb-true 0 l (and_true (ltb 0 l) (all_below other k) e).0

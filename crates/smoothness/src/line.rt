@@ -1,6 +1,6 @@
 // A line of the printout. Each function writes into a buffer from the place `at` and answers the place behind.
 ghost use Rattle.std.specs.Prelude.{◌≤◌, ◌++◌};
-ghost use Rattle.console.specs.Text.{decimalOf, HasRoom, Written};
+ghost use Rattle.console.specs.Text.{decimal_of, HasRoom, Written};
 ghost use Rattle.smoothness.specs.Printout.{field_of, line_of};
 
 use crate::bound::{least_bound, most_bound};
@@ -17,8 +17,8 @@ fn field(out: &mut [u8], at: usize, value: u64) -> usize
 
 // Which flow it is, its rate, and in how many slots it is measured.
 fn flow_fields(out: &mut [u8], at: usize, j: usize, i: usize, rate: u16, l: u32) -> usize
-    requires { HasRoom out.old at (decimalOf j ++ field_of i ++ field_of rate ++ field_of l) }
-    ensures { Written out.old at (decimalOf j ++ field_of i ++ field_of rate ++ field_of l) out.new result }
+    requires { HasRoom out.old at (decimal_of j ++ field_of i ++ field_of rate ++ field_of l) }
+    ensures { Written out.old at (decimal_of j ++ field_of i ++ field_of rate ++ field_of l) out.new result }
 {
     let board_at = number(out, at, j as u64);
     let rate_at = field(out, board_at, i as u64);

@@ -1,7 +1,7 @@
 // Reads a plan file from standard input and prints how evenly each flow is served, beside what is promised, or the number of
 // the refusal.
 ghost use Rattle.std.specs.Prelude.{◌≡◌, length};
-ghost use Rattle.smoothness.specs.Input.{mostInput};
+ghost use Rattle.smoothness.specs.Input.{most_input};
 
 use crate::printout::{PRINTOUT_ROOM, printout};
 use console::input::{Input, read_input};
@@ -18,7 +18,7 @@ mod record;
 const MOST_INPUT: usize = LONGEST_FILE + 1;
 
 fn input_room() -> [u8; MOST_INPUT]
-    ensures { length result ≡ mostInput }
+    ensures { length result ≡ most_input }
 {
     [0; MOST_INPUT]
 }

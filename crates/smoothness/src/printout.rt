@@ -1,10 +1,10 @@
 // The printout of a plan file, as a whole.
 ghost use Rattle.std.specs.Prelude.{◌≡◌, ◌*◌, ◌<◌, ◌≤◌, length};
-ghost use Rattle.plan.specs.Range.{mostPorts, mostSlots};
+ghost use Rattle.plan.specs.Range.{most_ports, most_slots};
 ghost use Rattle.console.specs.Text.{HasRoom, Written};
-ghost use Rattle.console.specs.TextBelow.{textBelow};
-ghost use Rattle.smoothness.specs.Printout.{stretches, counts, flowLinesOf, headLinesOf, printoutOf};
-ghost use Rattle.smoothness.specs.Head.{flowsLinesOf, ratesLinesOf};
+ghost use Rattle.console.specs.TextBelow.{text_below};
+ghost use Rattle.smoothness.specs.Printout.{stretches, counts, flow_lines_of, head_lines_of, printout_of};
+ghost use Rattle.smoothness.specs.Head.{flows_lines_of, rates_lines_of};
 
 use crate::line::line;
 use crate::record::{RECORD_ROOM, record_frames};
@@ -55,8 +55,8 @@ fn flow_lines(
     rate: u16,
     frame: u32,
 ) -> usize
-    requires { (1 ≤ frame) × (i < mostPorts) × HasRoom out.old from (flowLinesOf recorded.now j i rate frame) }
-    ensures { Written out.old from (flowLinesOf recorded.now j i rate frame) out.new result }
+    requires { (1 ≤ frame) × (i < most_ports) × HasRoom out.old from (flow_lines_of recorded.now j i rate frame) }
+    ensures { Written out.old from (flow_lines_of recorded.now j i rate frame) out.new result }
 {
     let lengths = [1, frame / 4, frame / 2, frame];
     let mut at = from;
@@ -80,8 +80,8 @@ fn flows_lines(
     j: usize,
     frame: u32,
 ) -> usize
-    requires { (1 ≤ frame) × (length rates.now ≤ mostPorts) × HasRoom out.old from (flowsLinesOf recorded.now rates.now j frame) }
-    ensures { Written out.old from (flowsLinesOf recorded.now rates.now j frame) out.new result }
+    requires { (1 ≤ frame) × (length rates.now ≤ most_ports) × HasRoom out.old from (flows_lines_of recorded.now rates.now j frame) }
+    ensures { Written out.old from (flows_lines_of recorded.now rates.now j frame) out.new result }
 {
     let mut at = from;
     for i in 0..rates.len() {
@@ -96,8 +96,8 @@ fn flows_lines(
 
 // The lines of head j, whose record is made once for all of its flows.
 fn head_lines(out: &mut [u8], at: usize, rates: &[u16], j: usize, frame: u32) -> usize
-    requires { (1 ≤ frame) × (frame ≤ mostSlots) × (length rates.now ≤ mostPorts) × HasRoom out.old at (ratesLinesOf rates.now j frame) }
-    ensures { Written out.old at (ratesLinesOf rates.now j frame) out.new result }
+    requires { (1 ≤ frame) × (frame ≤ most_slots) × (length rates.now ≤ most_ports) × HasRoom out.old at (rates_lines_of rates.now j frame) }
+    ensures { Written out.old at (rates_lines_of rates.now j frame) out.new result }
 {
     let mut recorded = [0u16; RECORD_ROOM];
     record_frames(rates, frame, &mut recorded);
@@ -106,8 +106,8 @@ fn head_lines(out: &mut [u8], at: usize, rates: &[u16], j: usize, frame: u32) ->
 
 // The lines of all heads.
 fn heads_lines(out: &mut [u8], from: usize, plan: Plan) -> usize
-    requires { (plan.ports ≤ mostPorts) × (1 ≤ plan.frame) × (plan.frame ≤ mostSlots) × HasRoom out.old from (textBelow (headLinesOf plan) plan.ports) }
-    ensures { Written out.old from (textBelow (headLinesOf plan) plan.ports) out.new result }
+    requires { (plan.ports ≤ most_ports) × (1 ≤ plan.frame) × (plan.frame ≤ most_slots) × HasRoom out.old from (text_below (head_lines_of plan) plan.ports) }
+    ensures { Written out.old from (text_below (head_lines_of plan) plan.ports) out.new result }
 {
     let n = plan.ports;
     let rates = plan.rates;
@@ -124,7 +124,7 @@ fn heads_lines(out: &mut [u8], from: usize, plan: Plan) -> usize
 
 // Puts the printout of a plan file at the start of the buffer, and answers how many bytes it has.
 pub fn printout(file: &[u8], out: &mut [u8; PRINTOUT_ROOM]) -> usize
-    ensures { Written out.old 0 (printoutOf file.now) out.new result }
+    ensures { Written out.old 0 (printout_of file.now) out.new result }
 {
     let reading = read(file);
     let verdict = reading.verdict;

@@ -1,8 +1,8 @@
 // The record of a head: which board's flow it serves, slot by slot.
 ghost use Rattle.std.specs.Prelude.{◌≡◌, ◌*◌, ◌<◌, ◌≤◌, length, take};
 ghost use Rattle.side.specs.Choices.{ChoosesPort};
-ghost use Rattle.meter.specs.Record.{entry_of, nextSlot};
-ghost use Rattle.smoothness.specs.Printout.{threeFramesOf};
+ghost use Rattle.meter.specs.Record.{entry_of, next_slot};
+ghost use Rattle.smoothness.specs.Printout.{three_frames_of};
 
 use meter::IDLE_SLOT;
 use multiplexer::{Choice, Multiplexer};
@@ -24,7 +24,7 @@ fn entry(choice: Choice) -> u16
 // After the last slot of a frame comes slot 0.
 fn next_slot(slot: u32, frame: u32) -> u32
     requires { slot < frame }
-    ensures { (result ≡ nextSlot frame slot) × (result < frame) }
+    ensures { (result ≡ next_slot frame slot) × (result < frame) }
 {
     if slot + 1 == frame {
         return 0;
@@ -35,7 +35,7 @@ fn next_slot(slot: u32, frame: u32) -> u32
 // What a head with these rates serves in three frames, at the start of the list.
 pub fn record_frames(rates: &[u16], frame: u32, recorded: &mut [u16])
     requires { (1 ≤ frame) × (3 * frame ≤ length recorded.old) }
-    ensures { take (3 * frame) recorded.new ≡ threeFramesOf rates.now frame }
+    ensures { take (3 * frame) recorded.new ≡ three_frames_of rates.now frame }
 {
     let mut port = Multiplexer {
         served: [0; MOST_PORTS],

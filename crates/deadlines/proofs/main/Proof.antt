@@ -1,7 +1,7 @@
 use borrow.Author.Rules.{rules}
 use mathlib.Core.Path.{sym}
 use lib.Seq.{length-take-le}
-use Rattle.console.proofs.TextLaws.{written-within}
+use Rattle.console.proofs.TextLaws.{written_within}
 use Rattle.deadlines.proofs.main.Statement.{statement}
 use Rattle.deadlines.proofs.main.Tie as tie
 
@@ -9,10 +9,10 @@ printout-requires : tie.Need-printout-requires
 printout-requires c κs = search rules
 
 array-share-prefix-out : tie.Need-array-share-prefix-out
-array-share-prefix-out c = written-within c.printout.ensures
+array-share-prefix-out c = written_within c.printout.ensures
 
 slice-aggregate-write-all : tie.Need-slice-aggregate-write-all
-slice-aggregate-write-all c = sym (length-take-le _ _ (written-within c.before.printout.ensures))
+slice-aggregate-write-all c = sym (length-take-le _ _ (written_within c.before.printout.ensures))
 
 write-all-requires : tie.Need-write-all-requires
 write-all-requires c κs = search rules

@@ -1,6 +1,6 @@
 use borrow.Author.Rules.{rules}
 use mathlib.Core.Path.{sym, ◌∙◌}
-use Rattle.meter.proofs.AnswerLaws.{accepted-record, covers-as}
+use Rattle.meter.proofs.AnswerLaws.{accepted_record, covers-as}
 use Rattle.meter.proofs.cover.Statement.{statement}
 use Rattle.meter.proofs.cover.Tie as tie
 
@@ -23,7 +23,7 @@ returns c =
     covers-as a.recorded.now a.flow a.l _ c.refused.result (sym e ∙ c.before.before.before.judge.ensures) (rw e at c.refused.ensures)
 
 measure-requires : tie.Need-measure-requires
-measure-requires c κs = accepted-record _ _ (sym c.before.before.judge.ensures ∙ c.enum_told.given.1)
+measure-requires c κs = accepted_record _ _ (sym c.before.before.judge.ensures ∙ c.enum_told.given.1)
 
 returns-2 : tie.Need-returns-2
 returns-2 c =

@@ -4,13 +4,13 @@ use mathlib.Core.Path.{◌≡◌, ap, sym, ◌∙◌}
 use native.Mathlib.Omega.{arith}
 use native.Mathlib.Numerals.{add-one}
 use lib.ListN.{get_or}
-use Rattle.plan.specs.Below.{sumBelow}
-use Rattle.meter.proofs.CoverLaws.{at, service-le-one, cover-first}
+use Rattle.plan.specs.Below.{sum_below}
+use Rattle.meter.proofs.CoverLaws.{at, service_le_one, cover-first}
 use Rattle.meter.proofs.first_services.Statement.{statement}
 use Rattle.meter.proofs.first_services.Tie as tie
 
 abbrev invariant-loop : tie.invariant-loop
-invariant-loop recorded flow l services₀ k₀ services k = (k ≤ l) × (services ≤ k) × (services ≡ sumBelow (at recorded flow) k)
+invariant-loop recorded flow l services₀ k₀ services k = (k ≤ l) × (services ≤ k) × (services ≡ sum_below (at recorded flow) k)
 
 abbrev decreases-loop : tie.decreases-loop
 decreases-loop recorded flow l services₀ k₀ services k = l - k
@@ -19,7 +19,7 @@ decreases-loop recorded flow l services₀ k₀ services k = l - k
 one : (c : tie.After-service invariant-loop decreases-loop) → c.service.result ≤ 1
 one c =
     let a = c.before.before.before.before.before.args in
-    omega (arith, c.service.ensures, service-le-one a.flow (get_or a.recorded.now c.before.before.before.loop.k 0))
+    omega (arith, c.service.ensures, service_le_one a.flow (get_or a.recorded.now c.before.before.before.loop.k 0))
 
 loop-holds : tie.Need-loop-init invariant-loop decreases-loop
 loop-holds c = search rules
@@ -49,7 +49,7 @@ returns : tie.Need-returns invariant-loop decreases-loop
 returns c =
     let a = c.before.before.before.args in
     let e : c.before.loop.k ≡ a.l = omega arith in
-    c.before.loop.invariant.2 ∙ ap (sumBelow (at a.recorded.now a.flow)) e ∙ sym (cover-first a.recorded.now a.flow a.l)
+    c.before.loop.invariant.2 ∙ ap (sum_below (at a.recorded.now a.flow)) e ∙ sym (cover-first a.recorded.now a.flow a.l)
 
 pub first-services-spec : {M : Type 1} → statement M
 first-services-spec =

@@ -3,8 +3,8 @@ use Prim.Native.Nat.{◌+◌, ◌-◌, ◌≤◌}
 use mathlib.Core.Path.{◌≡◌}
 use native.Mathlib.Omega.{arith}
 use lib.ListN.{length, get_or}
-use Rattle.meter.specs.Cover.{coverAt}
-use Rattle.meter.proofs.CoverLaws.{service-le-one, cover-within}
+use Rattle.meter.specs.Cover.{cover_at}
+use Rattle.meter.proofs.CoverLaws.{service_le_one, cover-within}
 use Rattle.meter.proofs.MeasureLaws.{Looked, looked-first, looked-slides, looked-next, looked-all}
 use Rattle.meter.proofs.measure.Statement.{statement}
 use Rattle.meter.proofs.measure.Tie as tie
@@ -20,12 +20,12 @@ one : (c : tie.After-service invariant-loop decreases-loop) → c.service.result
 one c =
     let a = c.before.before.before.before.before.before.args in
     let l = c.before.before.before.loop in
-    omega (arith, c.service.ensures, service-le-one a.flow (get_or a.recorded.now (l.place + a.l - 1) 0))
+    omega (arith, c.service.ensures, service_le_one a.flow (get_or a.recorded.now (l.place + a.l - 1) 0))
 
 -- what enters the stretch and what leaves it
 slid : (c : tie.After-service2 invariant-loop decreases-loop) → let a = c.before.before.before.before.before.before.before.before.args in
     let l = c.before.before.before.before.before.loop in
-    coverAt a.recorded.now a.flow a.l l.place + c.service2.result ≡ l.services + c.before.before.service.result
+    cover_at a.recorded.now a.flow a.l l.place + c.service2.result ≡ l.services + c.before.before.service.result
 slid c =
     let a = c.before.before.before.before.before.before.before.before.args in
     let l = c.before.before.before.before.before.loop in

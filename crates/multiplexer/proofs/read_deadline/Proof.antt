@@ -3,7 +3,7 @@ use Prim.Native.Nat.{ℕ, ◌+◌, ◌-◌, ◌*◌, ◌/◌}
 use mathlib.Core.Path.{◌≡◌}
 use native.Mathlib.Nat.{mul-le-mul}
 use native.Mathlib.Omega.{arith}
-use Rattle.multiplexer.specs.Deadlines.{tableFrame}
+use Rattle.multiplexer.specs.Deadlines.{table_frame}
 use Rattle.multiplexer.proofs.TableLaws.{half_product, before_small, Found, found}
 use Rattle.multiplexer.proofs.read_deadline.Statement.{statement}
 use Rattle.multiplexer.proofs.read_deadline.Tie as tie
@@ -14,7 +14,7 @@ sub-result c = search rules
 mul-result : tie.Need-overflow-mul-result
 mul-result c =
     let a = c.args.rate in
-    omega (arith, mul-le-mul {n₁ = a} {m₁ = a - 1} {n₂ = tableFrame} {m₂ = tableFrame} (omega arith) (omega arith))
+    omega (arith, mul-le-mul {n₁ = a} {m₁ = a - 1} {n₂ = table_frame} {m₂ = table_frame} (omega arith) (omega arith))
 
 sub-result-2 : tie.Need-overflow-sub-result-2
 sub-result-2 c = search rules

@@ -6,12 +6,12 @@ use native.Mathlib.Omega.{arith}
 use lib.Dec.{ltb, eqb}
 use lib.ListN.{length}
 use borrow.Author.Tests.{lt-ltb, le-ltb, eq-eqb, ne_eqb}
-use Rattle.plan.specs.Range.{mostFlows, portsInRange, frameInRange}
-use Rattle.plan.proofs.LineLaws.{square-small}
-use Rattle.plan.proofs.RangeLaws.{ports-range}
+use Rattle.plan.specs.Range.{most_flows, ports_in_range, frame_in_range}
+use Rattle.plan.proofs.LineLaws.{square_small}
+use Rattle.plan.proofs.RangeLaws.{ports_range}
 use Rattle.plan.proofs.TestLaws.{failed, passed}
-use Rattle.planfile.specs.Layout.{isMarked, versionIn, portsIn, frameIn, fileLength}
-use Rattle.planfile.specs.Read.{verdictOf, read_of}
+use Rattle.planfile.specs.Layout.{is_marked, version_in, ports_in, frame_in, file_length}
+use Rattle.planfile.specs.Read.{verdict_of, read_of}
 use Rattle.planfile.proofs.read.Statement.{statement}
 use Rattle.planfile.proofs.read.Tie as tie
 
@@ -20,34 +20,34 @@ use Rattle.planfile.proofs.read.Tie as tie
 head-pass : (c : tie.Else1) → ltb (length c.before.before.args.bytes.now) 8 ≡ false
 head-pass c = le-ltb (length c.before.before.args.bytes.now) 8 (omega arith)
 
-mark-pass : (c : tie.Else2) → let file = c.before.before.before.before.args.bytes.now in (isMarked file && eqb (versionIn file) 1) ≡ true
+mark-pass : (c : tie.Else2) → let file = c.before.before.before.before.args.bytes.now in (is_marked file && eqb (version_in file) 1) ≡ true
 mark-pass c = passed c.before.is-plan-file.ensures c.if2.false
 
-ports-test : (c : tie.After-ports-in-range) → c.ports-in-range.result ≡ portsInRange (portsIn c.before.before.before.before.before.before.args.bytes.now)
-ports-test c = c.ports-in-range.ensures ∙ ap portsInRange c.before.ports-in.ensures
+ports-test : (c : tie.After-ports-in-range) → c.ports-in-range.result ≡ ports_in_range (ports_in c.before.before.before.before.before.before.args.bytes.now)
+ports-test c = c.ports-in-range.ensures ∙ ap ports_in_range c.before.ports_in_lem.ensures
 
-ports-pass : (c : tie.Else3) → portsInRange (portsIn c.before.before.before.before.before.before.before.args.bytes.now) ≡ true
+ports-pass : (c : tie.Else3) → ports_in_range (ports_in c.before.before.before.before.before.before.before.args.bytes.now) ≡ true
 ports-pass c = passed (ports-test c.before) c.if3.false
 
-frame-test : (c : tie.After-frame-in-range) → c.frame-in-range.result ≡ frameInRange (frameIn c.before.before.before.before.before.before.before.before.before.args.bytes.now)
-frame-test c = c.frame-in-range.ensures ∙ ap frameInRange c.before.frame-in.ensures
+frame-test : (c : tie.After-frame-in-range) → c.frame-in-range.result ≡ frame_in_range (frame_in c.before.before.before.before.before.before.before.before.before.args.bytes.now)
+frame-test c = c.frame-in-range.ensures ∙ ap frame_in_range c.before.frame_in_lem.ensures
 
-frame-pass : (c : tie.Else4) → frameInRange (frameIn c.before.before.before.before.before.before.before.before.before.before.args.bytes.now) ≡ true
+frame-pass : (c : tie.Else4) → frame_in_range (frame_in c.before.before.before.before.before.before.before.before.before.before.args.bytes.now) ≡ true
 frame-pass c = passed (frame-test c.before) c.if4.false
 
 -- the square of N is small enough for the code's numbers
-few-rates : (c : tie.Else4) → let n = c.before.before.before.before.before.ports-in.result in n * n ≤ mostFlows
-few-rates c = square-small _ (rw (sym c.before.before.before.before.before.ports-in.ensures) at (ports-range _ (ports-pass c.before.before.before)).1)
+few-rates : (c : tie.Else4) → let n = c.before.before.before.before.before.ports_in_lem.result in n * n ≤ most_flows
+few-rates c = square_small _ (rw (sym c.before.before.before.before.before.ports_in_lem.ensures) at (ports_range _ (ports-pass c.before.before.before)).1)
 
 -- the length that the code computes
-whole_length : (c : tie.Else4) → fileLength c.before.before.before.before.before.ports-in.result ≡ fileLength (portsIn c.before.before.before.before.before.before.before.before.before.before.args.bytes.now)
-whole_length c = ap fileLength c.before.before.before.before.before.ports-in.ensures
+whole_length : (c : tie.Else4) → file_length c.before.before.before.before.before.ports_in_lem.result ≡ file_length (ports_in c.before.before.before.before.before.before.before.before.before.before.args.bytes.now)
+whole_length c = ap file_length c.before.before.before.before.before.ports_in_lem.ensures
 
 refused-requires : tie.Need-refused-requires
 refused-requires c κs = search rules
 
 returns : tie.Need-returns
-unfolding read_of verdictOf
+unfolding read_of verdict_of
 returns c = simp (lt-ltb (length c.before.before.before.args.bytes.now) 8 (omega arith)) c.refused.ensures
 
 is-plan-file-requires : tie.Need-is-plan-file-requires
@@ -57,7 +57,7 @@ refused-requires-2 : tie.Need-refused-requires-2
 refused-requires-2 c κs = search rules
 
 returns-2 : tie.Need-returns-2
-unfolding read_of verdictOf
+unfolding read_of verdict_of
 returns-2 c =
     let c2 = c.before in
     simp (head-pass c2.before.before, failed c2.before.is-plan-file.ensures c2.if2.true) c.refused2.ensures
@@ -72,7 +72,7 @@ refused-requires-3 : tie.Need-refused-requires-3
 refused-requires-3 c κs = search rules
 
 returns-3 : tie.Need-returns-3
-unfolding read_of verdictOf
+unfolding read_of verdict_of
 returns-3 c =
     let c3 = c.before in
     let c2 = c3.before.before.before in
@@ -88,7 +88,7 @@ refused-requires-4 : tie.Need-refused-requires-4
 refused-requires-4 c κs = search rules
 
 returns-4 : tie.Need-returns-4
-unfolding read_of verdictOf
+unfolding read_of verdict_of
 returns-4 c =
     let c4 = c.before in
     let c3 = c4.before.before.before in
@@ -108,7 +108,7 @@ refused-requires-5 : tie.Need-refused-requires-5
 refused-requires-5 c κs = search rules
 
 returns-5 : tie.Need-returns-5
-unfolding read_of verdictOf
+unfolding read_of verdict_of
 returns-5 c =
     let c4 = c.before.before in
     let c3 = c4.before.before.before in
@@ -119,7 +119,7 @@ returns-5 c =
       mark-pass c2,
       ports-pass c3,
       frame-pass c4,
-      ne_eqb (length file) (fileLength (portsIn file)) (λ e. omega (arith, whole_length c4)),
+      ne_eqb (length file) (file_length (ports_in file)) (λ e. omega (arith, whole_length c4)),
     )
     c.refused5.ensures
 
@@ -127,7 +127,7 @@ read-rates-requires : tie.Need-read-rates-requires
 read-rates-requires c κs = (few-rates c.before, omega arith)
 
 returns-6 : tie.Need-returns-6
-unfolding read_of verdictOf
+unfolding read_of verdict_of
 returns-6 c =
     let c4 = c.before.before in
     let c3 = c4.before.before.before in
@@ -138,9 +138,9 @@ returns-6 c =
       mark-pass c2,
       ports-pass c3,
       frame-pass c4,
-      eq-eqb (length file) (fileLength (portsIn file)) (omega (arith, whole_length c4)),
+      eq-eqb (length file) (file_length (ports_in file)) (omega (arith, whole_length c4)),
     )
-    (rw (sym c3.before.before.ports-in.ensures, sym c4.before.before.frame-in.ensures) c.read-rates.ensures)
+    (rw (sym c3.before.before.ports_in_lem.ensures, sym c4.before.before.frame_in_lem.ensures) c.read-rates.ensures)
 
 pub read_spec : {M : Type 1} → statement M
 read_spec =

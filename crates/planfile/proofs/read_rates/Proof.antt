@@ -1,9 +1,9 @@
 use borrow.Author.Rules.{rules}
 use mathlib.Core.Path.{◌≡◌, sym, ap, ◌∙◌}
 use native.Mathlib.Nat.{sub-zero}
-use Rattle.plan.specs.Accept.{acceptOf}
-use Rattle.planfile.specs.Layout.{ratesOf}
-use Rattle.planfile.proofs.LayoutLaws.{rates-length, padded-take}
+use Rattle.plan.specs.Accept.{accept_of}
+use Rattle.planfile.specs.Layout.{rates_of}
+use Rattle.planfile.proofs.LayoutLaws.{rates_length, padded_take}
 use Rattle.planfile.proofs.read_rates.Statement.{statement}
 use Rattle.planfile.proofs.read_rates.Tie as tie
 
@@ -32,11 +32,11 @@ refused-requires : tie.Need-refused-requires
 refused-requires c κs = search rules
 
 -- the part of the array that is lent holds the rates of the file
-verdict : (c : tie.After-accept) → let a = c.before.before.before.before.before.args in c.accept.result ≡ acceptOf a.n a.t (ratesOf a.bytes.now a.count)
+verdict : (c : tie.After-accept) → let a = c.before.before.before.before.before.args in c.accept.result ≡ accept_of a.n a.t (rates_of a.bytes.now a.count)
 verdict c =
     let a = c.before.before.before.before.before.args in
     let file = a.bytes.now in
-    c.accept.ensures ∙ ap (acceptOf a.n a.t) (rw (sub-zero, c.before.before.before.rates-of.ensures) (padded-take (ratesOf file a.count) a.count (rates-length file a.count)))
+    c.accept.ensures ∙ ap (accept_of a.n a.t) (rw (sub-zero, c.before.before.before.rates-of.ensures) (padded_take (rates_of file a.count) a.count (rates_length file a.count)))
 
 returns : tie.Need-returns
 returns c =

@@ -3,19 +3,19 @@ use Prim.Native.Nat.{◌-◌, ◌≤◌}
 use mathlib.Core.Path.{◌≡◌, refl}
 use native.Mathlib.Omega.{arith}
 use native.Mathlib.Numerals.{add-one}
-use Rattle.plan.specs.Range.{mostPorts}
-use Rattle.records.specs.Records.{recordsBelow}
+use Rattle.plan.specs.Range.{most_ports}
+use Rattle.records.specs.Records.{records_below}
 use Rattle.records.proofs.port_records.Statement.{statement}
 use Rattle.records.proofs.port_records.Tie as tie
 
 abbrev invariant-loop : tie.invariant-loop
-invariant-loop ports records₀ p₀ records p = (p ≤ mostPorts) × (records ≡ recordsBelow ports p)
+invariant-loop ports records₀ p₀ records p = (p ≤ most_ports) × (records ≡ records_below ports p)
 
 abbrev decreases-loop : tie.decreases-loop
-decreases-loop ports records₀ p₀ records p = mostPorts - p
+decreases-loop ports records₀ p₀ records p = most_ports - p
 
 loop-holds : tie.Need-loop-init invariant-loop decreases-loop
-unfolding recordsBelow
+unfolding records_below
 loop-holds c = (omega arith, refl)
 
 mul-port : tie.Need-overflow-mul-port invariant-loop decreases-loop
@@ -40,12 +40,12 @@ loop-less : tie.Need-loop-smaller invariant-loop decreases-loop
 loop-less c = search rules
 
 loop-again : tie.Need-loop-preserved invariant-loop decreases-loop
-unfolding recordsBelow
+unfolding records_below
 loop-again c = (omega arith, rw (add-one, c.port-record.ensures, c.before.before.before.loop.invariant.1) refl)
 
 returns : tie.Need-returns invariant-loop decreases-loop
 returns c =
-    let e : c.before.loop.p ≡ mostPorts = omega arith in
+    let e : c.before.loop.p ≡ most_ports = omega arith in
     rw e at c.before.loop.invariant.1
 
 pub port-records-spec : {M : Type 1} → statement M

@@ -5,7 +5,7 @@ use lib.ListN.{length}
 use lib.Seq.{length-take-le}
 use Rattle.console.specs.Input.{ReadWithin}
 use Rattle.planfile.specs.declared.writing.Writing.{Writing}
-use Rattle.sheet.proofs.SheetLaws.{sheet-within}
+use Rattle.sheet.proofs.SheetLaws.{sheet_within}
 use Rattle.sheet.proofs.convert.Statement.{statement}
 use Rattle.sheet.proofs.convert.Tie as tie
 
@@ -15,7 +15,7 @@ read-within c = let r = c.before.before.before.before.read-input in subst (ReadW
 
 -- those of the file are within its array
 file-within : (c : tie.After-bytes) → let file = c.before.before.before.plan-file.result in file.length ≤ length file.bytes
-file-within c = subst (λ (w : Writing). w.length ≤ length w.bytes) (sym c.before.before.before.plan-file.ensures) (sheet-within _ _ _)
+file-within c = subst (λ (w : Writing). w.length ≤ length w.bytes) (sym c.before.before.before.plan-file.ensures) (sheet_within _ _ _)
 
 input-room-requires : tie.Need-input-room-requires
 input-room-requires c κs = search rules

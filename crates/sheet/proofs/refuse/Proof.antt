@@ -4,7 +4,7 @@ use mathlib.Core.Path.{sym}
 use native.Mathlib.Omega.{arith}
 use lib.ListN.{length}
 use lib.Seq.{length-take-le}
-use Rattle.console.proofs.TextLaws.{refusal-short}
+use Rattle.console.proofs.TextLaws.{refusal_short}
 use Rattle.sheet.proofs.refuse.Statement.{statement}
 use Rattle.sheet.proofs.refuse.Tie as tie
 
@@ -12,12 +12,12 @@ slice-aggregate-refusal-line : tie.Need-slice-aggregate-refusal-line
 slice-aggregate-refusal-line c = search rules
 
 refusal-line-requires : tie.Need-refusal-line-requires
-refusal-line-requires c κs = omega (arith, refusal-short c.before.args.verdict)
+refusal-line-requires c κs = omega (arith, refusal_short c.before.args.verdict)
 
 line-within : (c : tie.After-line2) → c.before.refusal-line.result ≤ length c.before.refusal-line.new.0
 line-within c =
     let line = c.before.refusal-line in
-    omega (arith, line.ensures.place, line.auto.0, refusal-short c.before.before.before.args.verdict)
+    omega (arith, line.ensures.place, line.auto.0, refusal_short c.before.before.before.args.verdict)
 
 array-share-prefix-line : tie.Need-array-share-prefix-line
 array-share-prefix-line c = line-within c

@@ -4,7 +4,7 @@ use mathlib.Core.Path.{refl, sym, subst}
 use lib.ListN.{length}
 use lib.Seq.{length-take-le}
 use Rattle.console.specs.Input.{ReadWithin}
-use Rattle.console.proofs.TextLaws.{written-within}
+use Rattle.console.proofs.TextLaws.{written_within}
 use Rattle.smoothness.proofs.main.Statement.{statement}
 use Rattle.smoothness.proofs.main.Tie as tie
 
@@ -46,10 +46,10 @@ printout-requires : tie.Need-printout-requires
 printout-requires c κs = tt
 
 array-share-prefix-out : tie.Need-array-share-prefix-out
-array-share-prefix-out c = written-within c.printout.ensures
+array-share-prefix-out c = written_within c.printout.ensures
 
 slice-aggregate-write-all : tie.Need-slice-aggregate-write-all
-slice-aggregate-write-all c = sym (length-take-le _ _ (written-within c.before.printout.ensures))
+slice-aggregate-write-all c = sym (length-take-le _ _ (written_within c.before.printout.ensures))
 
 write-all-requires : tie.Need-write-all-requires
 write-all-requires c κs = tt

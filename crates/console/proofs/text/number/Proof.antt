@@ -2,13 +2,13 @@ use borrow.Author.Rules.{rules}
 use mathlib.Core.Path.{◌≡◌, ap, ◌∙◌}
 use native.Mathlib.Omega.{arith}
 use lib.ListN.{length, take}
-use Rattle.console.specs.Text.{decimalOf}
+use Rattle.console.specs.Text.{decimal_of}
 use Rattle.console.proofs.DigitLaws.{digits_decimal}
 use Rattle.console.proofs.TextLaws.{written_as}
 use Rattle.console.proofs.text.number.Statement.{statement}
 use Rattle.console.proofs.text.number.Tie as tie
 
-spelled : (c : tie.After-decimal) → take c.decimal.result c.decimal.new.1.0 ≡ decimalOf c.before.before.before.args.value
+spelled : (c : tie.After-decimal) → take c.decimal.result c.decimal.new.1.0 ≡ decimal_of c.before.before.before.args.value
 spelled c =
     let n = c.decimal.ensures in
     let s = c.before.before.before in

@@ -3,19 +3,19 @@ use Prim.Native.Nat.{◌*◌, ◌≤◌}
 use mathlib.Core.Path.{◌≡◌, sym, ◌∙◌}
 use native.Mathlib.Omega.{arith}
 use lib.ListN.{length}
-use Rattle.plan.specs.Range.{mostFlows}
-use Rattle.plan.proofs.LineLaws.{square-small}
+use Rattle.plan.specs.Range.{most_flows}
+use Rattle.plan.proofs.LineLaws.{square_small}
 use Rattle.refusal.specs.declared.Verdict.TheVariants.{Accepted}
-use Rattle.crossbar.specs.Start.{startVerdict}
-use Rattle.crossbar.proofs.StartLaws.{can-start, start-accepted, start-refused}
+use Rattle.crossbar.specs.Start.{start_verdict}
+use Rattle.crossbar.proofs.StartLaws.{can_start, start_accepted, start-refused}
 use Rattle.crossbar.proofs.start.start.Statement.{statement}
 use Rattle.crossbar.proofs.start.start.Tie as tie
 
-pass : (c : tie.After-enum-told) → let a = c.before.before.before.before.before.args in startVerdict a.n a.t a.rates.now a.depth (length a.store.now) ≡ Accepted
+pass : (c : tie.After-enum-told) → let a = c.before.before.before.before.before.args in start_verdict a.n a.t a.rates.now a.depth (length a.store.now) ≡ Accepted
 pass c = sym c.before.before.start-verdict.ensures ∙ c.enum_told.given.1
 
-room : (c : tie.After-enum-told) → let a = c.before.before.before.before.before.args in (a.n * a.n ≤ mostFlows) × (a.n * a.n ≤ length a.rates.now)
-room c = let p = (can-start _ _ _ _ _ (pass c)).plan in (square-small _ p.few-ports, omega (arith, p.square))
+room : (c : tie.After-enum-told) → let a = c.before.before.before.before.before.args in (a.n * a.n ≤ most_flows) × (a.n * a.n ≤ length a.rates.now)
+room c = let p = (can_start _ _ _ _ _ (pass c)).plan in (square_small _ p.few_ports, omega (arith, p.square))
 
 start-verdict-requires : tie.Need-start-verdict-requires
 start-verdict-requires c κs = search rules
@@ -45,7 +45,7 @@ fresh-with-requires-2 : tie.Need-fresh-with-requires-2
 fresh-with-requires-2 c κs = search rules
 
 returns-2 : tie.Need-returns-2
-returns-2 c = start-accepted _ _ _ _ _ c.before.before.before.before.start-verdict.ensures c.before.before.enum_told.given.1 c.before.overlay.ensures c.fresh-with2.ensures
+returns-2 c = start_accepted _ _ _ _ _ c.before.before.before.before.start-verdict.ensures c.before.before.enum_told.given.1 c.before.overlay.ensures c.fresh-with2.ensures
 
 pub start_spec : {M : Type 1} → statement M
 start_spec =

@@ -1,8 +1,8 @@
 use borrow.Author.Rules.{rules}
 use Prim.Native.Nat.{◌*◌}
 use native.Mathlib.Omega.{arith}
-use Rattle.multiplexer.specs.Deadlines.{tableFrame}
-use Rattle.multiplexer.proofs.RoundLaws.{quotient-rounded}
+use Rattle.multiplexer.specs.Deadlines.{table_frame}
+use Rattle.multiplexer.proofs.RoundLaws.{quotient_rounded}
 use Rattle.deadlines.proofs.printout.deadline.Statement.{statement}
 use Rattle.deadlines.proofs.printout.deadline.Tie as tie
 
@@ -22,7 +22,7 @@ cast-result : tie.Need-overflow-cast-result
 cast-result c = search rules
 
 returns : tie.Need-returns
-returns c = quotient-rounded (c.args.s * tableFrame) _ c.args.a (omega arith)
+returns c = quotient_rounded (c.args.s * table_frame) _ c.args.a (omega arith)
 
 pub deadline-spec : {M : Type 1} → statement M
 deadline-spec = tie.close (tie.spec mul-sum sub-sum add-sum cast-result div-result returns)

@@ -1,12 +1,12 @@
 use borrow.Author.Rules.{rules}
-use Rattle.console.specs.Text.{decimalOf}
-use Rattle.console.specs.Refused.{lineEnd}
+use Rattle.console.specs.Text.{decimal_of}
+use Rattle.console.specs.Refused.{line_end}
 use Rattle.console.proofs.TextLaws.{room-first, room_next, written_on}
 use Rattle.deadlines.proofs.printout.line.Statement.{statement}
 use Rattle.deadlines.proofs.printout.line.Tie as tie
 
 number-requires : tie.Need-number-requires
-number-requires c κs = room-first (decimalOf c.before.before.args.value) lineEnd c.before.before.requires
+number-requires c κs = room-first (decimal_of c.before.before.args.value) line_end c.before.before.requires
 
 slice-aggregate-put : tie.Need-slice-aggregate-put
 slice-aggregate-put c = search rules
@@ -15,7 +15,7 @@ put-requires : tie.Need-put-requires
 put-requires c κs =
     let number = c.before.before.before.before.number in
     let s = c.before.before.before.before.before.before.before in
-    room_next (decimalOf s.args.value) lineEnd s.requires number.ensures number.auto.0
+    room_next (decimal_of s.args.value) line_end s.requires number.ensures number.auto.0
 
 same_length : tie.Need-same-length
 same_length c = search rules

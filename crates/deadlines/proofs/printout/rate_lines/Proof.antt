@@ -4,22 +4,22 @@ use mathlib.Core.List.{List}
 use mathlib.Core.Path.{◌≡◌, refl, ap, sym}
 use native.Mathlib.Omega.{arith}
 use lib.ListN.{length}
-use Rattle.multiplexer.specs.Choose.{roundedUp}
-use Rattle.multiplexer.specs.Deadlines.{tableFrame}
+use Rattle.multiplexer.specs.Choose.{rounded_up}
+use Rattle.multiplexer.specs.Deadlines.{table_frame}
 use Rattle.console.specs.Text.{Written}
-use Rattle.console.specs.TextBelow.{textBelow}
+use Rattle.console.specs.TextBelow.{text_below}
 use Rattle.console.proofs.TextLaws.{room_as, written_as}
 use Rattle.console.proofs.TextBelowLaws.{below_none, below-room, below_step}
-use Rattle.deadlines.specs.Printout.{line_of, rateLinesOf}
+use Rattle.deadlines.specs.Printout.{line_of, rate_lines_of}
 use Rattle.deadlines.proofs.printout.rate_lines.Statement.{statement}
 use Rattle.deadlines.proofs.printout.rate_lines.Tie as tie
 
 -- the line of service k + 1
 abbrev line_at : ℕ → ℕ → List ℕ
-line_at a k = line_of (roundedUp ((k + 1) * tableFrame) a)
+line_at a k = line_of (rounded_up ((k + 1) * table_frame) a)
 
 abbrev invariant-loop : tie.invariant-loop
-invariant-loop out₀ from a at₀ k₀ out at k = (k ≤ a) × (length out ≡ length out₀) × Written out₀ from (textBelow (line_at a) k) out at
+invariant-loop out₀ from a at₀ k₀ out at k = (k ≤ a) × (length out ≡ length out₀) × Written out₀ from (text_below (line_at a) k) out at
 
 abbrev decreases-loop : tie.decreases-loop
 decreases-loop out₀ from a at₀ k₀ out at k = a - k
@@ -34,7 +34,7 @@ deadline-requires : tie.Need-deadline-requires invariant-loop decreases-loop
 deadline-requires c κs = search rules
 
 line-requires : tie.Need-line-requires invariant-loop decreases-loop
-unfolding rateLinesOf
+unfolding rate_lines_of
 line-requires c κs =
     let l = c.before.before.before.loop in
     let s = c.before.before.before.before.before in
@@ -57,12 +57,12 @@ same_length : tie.Need-same-length invariant-loop decreases-loop
 same_length c = search rules
 
 returns : tie.Need-returns invariant-loop decreases-loop
-unfolding rateLinesOf
+unfolding rate_lines_of
 returns c =
     let l = c.before.loop in
     let a = c.before.before.before.args.a in
     let all : l.k ≡ a = omega (arith, l.invariant.0, c.loop-test.false) in
-    written_as l.invariant.2 (ap (textBelow (line_at a)) all)
+    written_as l.invariant.2 (ap (text_below (line_at a)) all)
 
 pub rate-lines-spec : {M : Type 1} → statement M
 rate-lines-spec =

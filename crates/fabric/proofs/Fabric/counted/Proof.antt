@@ -2,13 +2,13 @@ use borrow.Author.Rules.{rules}
 use Prim.Native.Nat.{◌-◌, ◌≤◌}
 use mathlib.Core.Path.{◌≡◌}
 use native.Mathlib.Omega.{arith}
-use Rattle.fabric.specs.Counts.{countedOf}
+use Rattle.fabric.specs.Counts.{counted_of}
 use Rattle.fabric.proofs.CountLaws.{counted_none, counted_next}
 use Rattle.fabric.proofs.Fabric.counted.Statement.{statement}
 use Rattle.fabric.proofs.Fabric.counted.Tie as tie
 
 abbrev invariant-loop : tie.invariant-loop
-invariant-loop n self₀ boards heads p₀ self p = (p ≤ n) × (self ≡ countedOf self₀ boards.ports heads.ports p)
+invariant-loop n self₀ boards heads p₀ self p = (p ≤ n) × (self ≡ counted_of self₀ boards.ports heads.ports p)
 
 abbrev decreases-loop : tie.decreases-loop
 decreases-loop n self₀ boards heads p₀ self p = n - p

@@ -4,11 +4,11 @@ use mathlib.Core.Path.{◌≡◌, refl}
 use native.Mathlib.Omega.{arith}
 use lib.ListN.{length, get_or}
 use Rattle.plan.proofs.TestLaws.{failed, passed}
-use Rattle.fabric.specs.Flow.{noQueue, noPoint}
-use Rattle.side.specs.Choices.{choicesIn}
+use Rattle.fabric.specs.Flow.{no_queue, no_point}
+use Rattle.side.specs.Choices.{choices_in}
 use Rattle.fabric.specs.Moves.{Moves, moves_of, CanMove}
-use Rattle.side.proofs.TurnLaws.{turn-idle, turn-serves}
-use Rattle.fabric.proofs.MoveLaws.{moves-idle-step, moves-flow-step, moves-ready, moved-whole}
+use Rattle.side.proofs.TurnLaws.{turn_idle, turn_serves}
+use Rattle.fabric.proofs.MoveLaws.{moves-idle-step, moves-flow-step, moves-ready, moved_whole}
 use Rattle.fabric.proofs.Fabric.moved.Statement.{statement}
 use Rattle.fabric.proofs.Fabric.moved.Tie as tie
 
@@ -17,7 +17,7 @@ invariant-loop store n depth self₀ turns ports₀ i₀ self ports i =
     (i ≤ n)
     × (self.boards ≡ self₀.boards)
     × (self.heads ≡ self₀.heads)
-    × (◌≡◌ {A = Moves} (record { queues = self.queues; crosspoints = self.crosspoints; ports = ports }) (moves_of n depth store (choicesIn turns) self₀.queues self₀.crosspoints i))
+    × (◌≡◌ {A = Moves} (record { queues = self.queues; crosspoints = self.crosspoints; ports = ports }) (moves_of n depth store (choices_in turns) self₀.queues self₀.crosspoints i))
 
 abbrev decreases-loop : tie.decreases-loop
 decreases-loop store n depth self₀ turns ports₀ i₀ self ports i = n - i
@@ -27,11 +27,11 @@ ready : (c : tie.After-point invariant-loop decreases-loop) →
     let a = c.before.before.before.before.before.before.before.before.before.before.args in
     let l = c.before.before.before.before.before.before.before.before.loop in
     let k = c.before.before.flow-place.result in
-    CanMove a.depth (get_or l.self.queues k noQueue) (get_or l.self.crosspoints k noPoint)
+    CanMove a.depth (get_or l.self.queues k no_queue) (get_or l.self.crosspoints k no_point)
 ready c =
     let t = c.before.before.before in
     let s = t.before.before.before.before.before.before.before in
-    moves-ready _ _ _ _ _ _ _ _ _ _ _ s.requires t.before.before.before.before.loop-test.true t.before.before.before.before.before.loop.invariant.3 (turn-serves _ _ (passed refl t.before.if1.false)) c.before.before.flow-place.ensures.is
+    moves-ready _ _ _ _ _ _ _ _ _ _ _ s.requires t.before.before.before.before.loop-test.true t.before.before.before.before.before.loop.invariant.3 (turn_serves _ _ (passed refl t.before.if1.false)) c.before.before.flow-place.ensures.is
 
 -- where a board acts the store has its length
 fits : (c : tie.After-point invariant-loop decreases-loop) →
@@ -58,7 +58,7 @@ loop-less c = search rules
 loop-again : tie.Need-loop-preserved invariant-loop decreases-loop
 loop-again c =
     let i = c.before.before.before.before.loop.invariant in
-    (omega arith, i.1, i.2, moves-idle-step _ _ _ _ _ _ _ _ i.3 (turn-idle _ _ (failed refl c.if1.true)))
+    (omega arith, i.1, i.2, moves-idle-step _ _ _ _ _ _ _ _ i.3 (turn_idle _ _ (failed refl c.if1.true)))
 
 cast-j : tie.Need-overflow-cast-j invariant-loop decreases-loop
 cast-j c = search rules
@@ -67,7 +67,7 @@ flow-place-requires : tie.Need-flow-place-requires invariant-loop decreases-loop
 flow-place-requires c κs =
     let s = c.before.before.before.before.before.before.before in
     let l = c.before.before.before.before.loop-test.true in
-    (s.requires.choosing.few-ports, l, s.requires.choosing.named _ _ l (turn-serves _ _ (passed refl c.before.if1.false)))
+    (s.requires.choosing.few_ports, l, s.requires.choosing.named _ _ l (turn_serves _ _ (passed refl c.before.if1.false)))
 
 mul-queue : tie.Need-overflow-mul-queue invariant-loop decreases-loop
 mul-queue c = search rules
@@ -84,7 +84,7 @@ element-copy-out-point c = search rules
 oldest-place-requires : tie.Need-oldest-place-requires invariant-loop decreases-loop
 oldest-place-requires c κs =
     let s = c.before.before.before.before.before.before.before.before.before.before in
-    (s.requires.choosing.few-ports, s.requires.few-cells (omega arith), c.before.before.flow-place.ensures.below, (ready c).place)
+    (s.requires.choosing.few_ports, s.requires.few_cells (omega arith), c.before.before.flow-place.ensures.below, (ready c).place)
 
 mul-cell : tie.Need-overflow-mul-cell invariant-loop decreases-loop
 mul-cell c = let e = fits c.before in search rules
@@ -124,13 +124,13 @@ loop-again-2 c =
     let p = c.before.before.before.before.before.before in
     let t = p.before.before.before in
     let i = t.before.before.before.before.before.loop.invariant in
-    (omega arith, i.1, i.2, moves-flow-step _ _ _ _ _ _ _ _ _ _ _ _ i.3 (turn-serves _ _ (passed refl t.before.if1.false)) p.before.before.flow-place.ensures.is c.before.before.before.before.before.oldest-place.ensures.is c.before.before.before.move-cell.ensures)
+    (omega arith, i.1, i.2, moves-flow-step _ _ _ _ _ _ _ _ _ _ _ _ i.3 (turn_serves _ _ (passed refl t.before.if1.false)) p.before.before.flow-place.ensures.is c.before.before.before.before.before.oldest-place.ensures.is c.before.before.before.move-cell.ensures)
 
 returns : tie.Need-returns invariant-loop decreases-loop
 returns c =
     let e : c.before.loop.i ≡ c.before.before.before.args.n = omega arith in
     let i = c.before.loop.invariant in
-    moved-whole _ c.before.before.before.args.t1 _ _ i.1 i.2 (rw e at i.3)
+    moved_whole _ c.before.before.before.args.t1 _ _ i.1 i.2 (rw e at i.3)
 
 pub moved-spec : {M : Type 1} → statement M
 moved-spec =

@@ -3,10 +3,10 @@ use Prim.Native.Nat.{◌-◌, ◌≤◌}
 use mathlib.Core.Path.{◌≡◌, refl}
 use native.Mathlib.Omega.{arith}
 use Rattle.plan.proofs.TestLaws.{failed, passed}
-use Rattle.side.specs.Choices.{choicesIn}
-use Rattle.fabric.specs.Sends.{Sends, sendsOf}
-use Rattle.side.proofs.TurnLaws.{turn-idle, turn-serves}
-use Rattle.fabric.proofs.SendLaws.{sends-idle-step, sends-flow-step, sent-whole}
+use Rattle.side.specs.Choices.{choices_in}
+use Rattle.fabric.specs.Sends.{Sends, sends_of}
+use Rattle.side.proofs.TurnLaws.{turn_idle, turn_serves}
+use Rattle.fabric.proofs.SendLaws.{sends-idle-step, sends-flow-step, sent_whole}
 use Rattle.fabric.proofs.Fabric.sent.Statement.{statement}
 use Rattle.fabric.proofs.Fabric.sent.Tie as tie
 
@@ -16,13 +16,13 @@ invariant-loop n self₀ turns ports₀ j₀ self ports j =
     × (self.queues ≡ self₀.queues)
     × (self.boards ≡ self₀.boards)
     × (self.heads ≡ self₀.heads)
-    × (◌≡◌ {A = Sends} (record { crosspoints = self.crosspoints; ports = ports }) (sendsOf n (choicesIn turns) self₀.crosspoints j))
+    × (◌≡◌ {A = Sends} (record { crosspoints = self.crosspoints; ports = ports }) (sends_of n (choices_in turns) self₀.crosspoints j))
 
 abbrev decreases-loop : tie.decreases-loop
 decreases-loop n self₀ turns ports₀ j₀ self ports j = n - j
 
 loop-holds : tie.Need-loop-init invariant-loop decreases-loop
-unfolding sendsOf
+unfolding sends_of
 loop-holds c = (omega arith, refl, refl, refl, refl)
 
 mul-turn : tie.Need-overflow-mul-turn invariant-loop decreases-loop
@@ -40,7 +40,7 @@ loop-less c = search rules
 loop-again : tie.Need-loop-preserved invariant-loop decreases-loop
 loop-again c =
     let i = c.before.before.before.before.loop.invariant in
-    (omega arith, i.1, i.2, i.3, sends-idle-step _ _ _ _ _ i.4 (turn-idle _ _ (failed refl c.if1.true)))
+    (omega arith, i.1, i.2, i.3, sends-idle-step _ _ _ _ _ i.4 (turn_idle _ _ (failed refl c.if1.true)))
 
 cast-i : tie.Need-overflow-cast-i invariant-loop decreases-loop
 cast-i c = search rules
@@ -49,7 +49,7 @@ flow-place-requires : tie.Need-flow-place-requires invariant-loop decreases-loop
 flow-place-requires c κs =
     let s = c.before.before.before.before.before.before in
     let l = c.before.before.before.before.loop-test.true in
-    (s.requires.few-ports, s.requires.named _ _ l (turn-serves _ _ (passed refl c.before.if1.false)), l)
+    (s.requires.few_ports, s.requires.named _ _ l (turn_serves _ _ (passed refl c.before.if1.false)), l)
 
 mul-point : tie.Need-overflow-mul-point invariant-loop decreases-loop
 mul-point c = search rules
@@ -82,13 +82,13 @@ loop-again-2 : tie.Need-loop-preserved-2 invariant-loop decreases-loop
 loop-again-2 c =
     let t = c.before.before.before.before.before in
     let i = t.before.before.before.before.before.loop.invariant in
-    (omega arith, i.1, i.2, i.3, sends-flow-step _ _ _ _ _ _ _ _ i.4 (turn-serves _ _ (passed refl t.before.if1.false)) c.before.before.before.before.flow-place.ensures.is c.before.before.Send-cell.ensures)
+    (omega arith, i.1, i.2, i.3, sends-flow-step _ _ _ _ _ _ _ _ i.4 (turn_serves _ _ (passed refl t.before.if1.false)) c.before.before.before.before.flow-place.ensures.is c.before.before.Send-cell.ensures)
 
 returns : tie.Need-returns invariant-loop decreases-loop
 returns c =
     let e : c.before.loop.j ≡ c.before.before.args.n = omega arith in
     let i = c.before.loop.invariant in
-    sent-whole _ c.before.before.args.t1 _ _ i.1 i.2 i.3 (rw e at i.4)
+    sent_whole _ c.before.before.args.t1 _ _ i.1 i.2 i.3 (rw e at i.4)
 
 pub sent-spec : {M : Type 1} → statement M
 sent-spec =

@@ -2,17 +2,17 @@ use borrow.Author.Rules.{rules}
 use Prim.Native.Nat.{◌<◌}
 use native.Mathlib.Omega.{arith}
 use borrow.Author.Tests.{eq-eqb, ne_eqb}
-use Rattle.fabric.specs.Flow.{crosspointDepth}
+use Rattle.fabric.specs.Flow.{crosspoint_depth}
 use Rattle.fabric.specs.Moves.{move_of}
-use Rattle.fabric.proofs.MoveLaws.{room-left}
+use Rattle.fabric.proofs.MoveLaws.{room_left}
 use Rattle.fabric.proofs.moves.move_cell.Statement.{statement}
 use Rattle.fabric.proofs.moves.move_cell.Tie as tie
 
 -- where the queue has a cell
-room : (c : tie.After-struct-known2) → c.before.before.before.args.point.count < crosspointDepth
+room : (c : tie.After-struct-known2) → c.before.before.before.args.point.count < crosspoint_depth
 room c =
     let s = c.before.before.before in
-    room-left s.args.queue s.args.point s.requires.room c.before.if1.false
+    room_left s.args.queue s.args.point s.requires.room c.before.if1.false
 
 returns : tie.Need-returns
 unfolding move_of

@@ -4,14 +4,14 @@ use mathlib.Core.Path.{◌≡◌, refl, sym, ◌∙◌}
 use mathlib.Core.Bool.{true}
 use native.Mathlib.Omega.{arith}
 use Rattle.plan.proofs.TestLaws.{failed, passed}
-use Rattle.side.specs.Choices.{choicesIn}
-use Rattle.side.proofs.TurnLaws.{turn-idle, turn-serves}
+use Rattle.side.specs.Choices.{choices_in}
+use Rattle.side.proofs.TurnLaws.{turn_idle, turn_serves}
 use Rattle.fabric.proofs.MoveLaws.{roomBelow, room-start, room-all, room-idle-step, room-flow-step, room-fails}
 use Rattle.fabric.proofs.moves.room_for_all.Statement.{statement}
 use Rattle.fabric.proofs.moves.room_for_all.Tie as tie
 
 abbrev invariant-loop : tie.invariant-loop
-invariant-loop n queues crosspoints turns i₀ i = (i ≤ n) × (roomBelow n (choicesIn turns) queues crosspoints i ≡ true)
+invariant-loop n queues crosspoints turns i₀ i = (i ≤ n) × (roomBelow n (choices_in turns) queues crosspoints i ≡ true)
 
 abbrev decreases-loop : tie.decreases-loop
 decreases-loop n queues crosspoints turns i₀ i = n - i
@@ -33,7 +33,7 @@ loop-less c = search rules
 
 loop-again : tie.Need-loop-preserved invariant-loop decreases-loop
 loop-again c =
-    (omega arith, room-idle-step _ _ _ _ _ c.before.before.before.before.loop.invariant.1 (turn-idle _ _ (failed refl c.if1.true)))
+    (omega arith, room-idle-step _ _ _ _ _ c.before.before.before.before.loop.invariant.1 (turn_idle _ _ (failed refl c.if1.true)))
 
 cast-flow-place : tie.Need-overflow-cast-flow-place invariant-loop decreases-loop
 cast-flow-place c = search rules
@@ -42,7 +42,7 @@ flow-place-requires : tie.Need-flow-place-requires invariant-loop decreases-loop
 flow-place-requires c κs =
     let s = c.before.before.before.before.before.before in
     let l = c.before.before.before.before.loop-test.true in
-    (s.requires.few-ports, l, s.requires.named _ _ l (turn-serves _ _ (passed refl c.before.if1.false)))
+    (s.requires.few_ports, l, s.requires.named _ _ l (turn_serves _ _ (passed refl c.before.if1.false)))
 
 mul-queue : tie.Need-overflow-mul-queue invariant-loop decreases-loop
 mul-queue c = search rules
@@ -62,7 +62,7 @@ has-room-requires c κs = search rules
 returns : tie.Need-returns invariant-loop decreases-loop
 returns c =
     let t = c.before.before.before.before.before in
-    sym (room-fails _ _ _ _ _ _ _ t.before.before.before.before.loop-test.true (turn-serves _ _ (passed refl t.before.if1.false)) c.before.before.before.before.flow-place.ensures.is (failed c.before.has_room.ensures c.if2.true))
+    sym (room-fails _ _ _ _ _ _ _ t.before.before.before.before.loop-test.true (turn_serves _ _ (passed refl t.before.if1.false)) c.before.before.before.before.flow-place.ensures.is (failed c.before.has_room.ensures c.if2.true))
 
 add-i-2 : tie.Need-overflow-add-i-2 invariant-loop decreases-loop
 add-i-2 c = search rules
@@ -73,7 +73,7 @@ loop-less-2 c = search rules
 loop-again-2 : tie.Need-loop-preserved-2 invariant-loop decreases-loop
 loop-again-2 c =
     let t = c.before.before.before.before.before in
-    (omega arith, room-flow-step _ _ _ _ _ _ _ t.before.before.before.before.before.loop.invariant.1 (turn-serves _ _ (passed refl t.before.if1.false)) c.before.before.before.before.flow-place.ensures.is (passed c.before.has_room.ensures c.if2.false))
+    (omega arith, room-flow-step _ _ _ _ _ _ _ t.before.before.before.before.before.loop.invariant.1 (turn_serves _ _ (passed refl t.before.if1.false)) c.before.before.before.before.flow-place.ensures.is (passed c.before.has_room.ensures c.if2.false))
 
 returns-2 : tie.Need-returns-2 invariant-loop decreases-loop
 returns-2 c = sym c.before.loop.invariant.1 ∙ room-all _ _ _ _ _ (omega arith)

@@ -1,7 +1,7 @@
 use borrow.Author.Rules.{rules}
 use Prim.Native.Nat.{◌+◌, ◌*◌, ◌<◌}
 use native.Mathlib.Omega.{arith}
-use Rattle.fabric.proofs.FlowLaws.{cell_below, store-small, oldest-cell}
+use Rattle.fabric.proofs.FlowLaws.{cell_below, store_small, oldest_cell}
 use Rattle.fabric.proofs.places.oldest_place.Statement.{statement}
 use Rattle.fabric.proofs.places.oldest_place.Tie as tie
 
@@ -13,13 +13,13 @@ cast-place : tie.Need-overflow-cast-place
 cast-place c = search rules
 
 mul-result : tie.Need-overflow-mul-result
-mul-result c = omega (arith, within c.before, store-small c.before.args.n c.before.args.depth c.before.requires.0 c.before.requires.1)
+mul-result c = omega (arith, within c.before, store_small c.before.args.n c.before.args.depth c.before.requires.0 c.before.requires.1)
 
 add-result : tie.Need-overflow-add-result
-add-result c = omega (arith, within c.before, store-small c.before.args.n c.before.args.depth c.before.requires.0 c.before.requires.1)
+add-result c = omega (arith, within c.before, store_small c.before.args.n c.before.args.depth c.before.requires.0 c.before.requires.1)
 
 returns : tie.Need-returns
-returns c = record { is = oldest-cell _ _ c.before.args.queue c.before.requires.3; below = within c.before }
+returns c = record { is = oldest_cell _ _ c.before.args.queue c.before.requires.3; below = within c.before }
 
 pub oldest-place-spec : {M : Type 1} → statement M
 oldest-place-spec = tie.close (tie.spec cast-place mul-result add-result returns)

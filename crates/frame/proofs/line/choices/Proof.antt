@@ -4,14 +4,14 @@ use mathlib.Core.Path.{◌≡◌, refl, ap}
 use native.Mathlib.Omega.{arith}
 use lib.ListN.{length}
 use Rattle.console.specs.Text.{Written}
-use Rattle.frame.specs.Printout.{sideChoicesOf}
+use Rattle.frame.specs.Printout.{side_choices_of}
 use Rattle.console.proofs.TextLaws.{written_as, written_on}
 use Rattle.console.proofs.TextBelowLaws.{below_none, below_next, below-room}
 use Rattle.frame.proofs.line.choices.Statement.{statement}
 use Rattle.frame.proofs.line.choices.Tie as tie
 
 abbrev invariant-loop : tie.invariant-loop
-invariant-loop out₀ from n ports at₀ p₀ out at p = (p ≤ n) × (length out ≡ length out₀) × Written out₀ from (sideChoicesOf ports p) out at
+invariant-loop out₀ from n ports at₀ p₀ out at p = (p ≤ n) × (length out ≡ length out₀) × Written out₀ from (side_choices_of ports p) out at
 
 abbrev decreases-loop : tie.decreases-loop
 decreases-loop out₀ from n ports at₀ p₀ out at p = n - p
@@ -49,7 +49,7 @@ returns c =
     let l = c.before.loop in
     let a = c.before.before.before.args in
     let all : l.p ≡ a.n = omega (arith, l.invariant.0, c.loop-test.false) in
-    written_as l.invariant.2 (ap (sideChoicesOf a.t3) all)
+    written_as l.invariant.2 (ap (side_choices_of a.t3) all)
 
 pub choices-spec : {M : Type 1} → statement M
 choices-spec =

@@ -2,14 +2,14 @@ use borrow.Author.Rules.{rules}
 use Prim.Native.Nat.{◌+◌, ◌≤◌}
 use native.Mathlib.Omega.{arith}
 use lib.ListN.{length, length-append}
-use Rattle.frame.specs.Printout.{inputName, outputName, names_of, headerOf}
+use Rattle.frame.specs.Printout.{input_name, output_name, names_of, header_of}
 use Rattle.console.proofs.TextLaws.{written_on}
 use Rattle.frame.proofs.line.header.Statement.{statement}
 use Rattle.frame.proofs.line.header.Tie as tie
 
 -- the word, the names of both sides and the line's end
-room : (c : tie.Start) → c.args.at + (4 + length (names_of inputName c.args.n) + length (names_of outputName c.args.n) + 1) ≤ length c.args.out.now
-unfolding headerOf
+room : (c : tie.Start) → c.args.at + (4 + length (names_of input_name c.args.n) + length (names_of output_name c.args.n) + 1) ≤ length c.args.out.now
+unfolding header_of
 room c = omega (arith, simp length-append at c.requires.enough)
 
 slice-aggregate-put : tie.Need-slice-aggregate-put
@@ -40,7 +40,7 @@ same_length : tie.Need-same-length
 same_length c = search rules
 
 returns : tie.Need-returns
-unfolding headerOf
+unfolding header_of
 returns c =
     let word = c.before.before.before.before.before.before.before.before.before.before.before.before.before.before.before.before.before.put.ensures in
     let boards = c.before.before.before.before.before.before.before.before.before.before.before.before.names.ensures in

@@ -4,7 +4,7 @@ use mathlib.Core.List.{List, ◌++◌}
 use mathlib.Core.Path.{◌≡◌, refl, ap}
 use native.Mathlib.Omega.{arith}
 use lib.ListN.{length, length-append}
-use Rattle.console.specs.Text.{decimalOf, HasRoom, Written}
+use Rattle.console.specs.Text.{decimal_of, HasRoom, Written}
 use Rattle.frame.specs.Printout.{names_of}
 use Rattle.console.proofs.TextLaws.{written_as, written_on}
 use Rattle.console.proofs.TextBelowLaws.{below_none, below_next, below-room}
@@ -19,7 +19,7 @@ decreases-loop out₀ from side n at₀ port₀ out at port = n - port
 
 -- the name of one port
 abbrev name : List ℕ → ℕ → List ℕ
-name side p = side ++ decimalOf p
+name side p = side ++ decimal_of p
 
 room : (c : tie.In-loop invariant-loop decreases-loop)
     → HasRoom c.before.loop.out c.before.loop.at (name c.before.before.before.before.args.side.now c.before.loop.port)

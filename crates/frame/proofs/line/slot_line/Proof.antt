@@ -2,17 +2,17 @@ use borrow.Author.Rules.{rules}
 use Prim.Native.Nat.{◌+◌, ◌≤◌}
 use native.Mathlib.Omega.{arith}
 use lib.ListN.{length, length-append}
-use Rattle.console.specs.Text.{decimalOf}
-use Rattle.frame.specs.Printout.{sideChoicesOf, slotLineOf}
+use Rattle.console.specs.Text.{decimal_of}
+use Rattle.frame.specs.Printout.{side_choices_of, slot_line_of}
 use Rattle.console.proofs.TextLaws.{written_on}
 use Rattle.frame.proofs.line.slot_line.Statement.{statement}
 use Rattle.frame.proofs.line.slot_line.Tie as tie
 
 -- the slot, the choices of both sides and the line's end
 room : (c : tie.Start)
-    → c.args.at + (length (decimalOf c.args.slot) + length (sideChoicesOf c.args.boards c.args.n) + length (sideChoicesOf c.args.heads c.args.n) + 1)
+    → c.args.at + (length (decimal_of c.args.slot) + length (side_choices_of c.args.boards c.args.n) + length (side_choices_of c.args.heads c.args.n) + 1)
     ≤ length c.args.out.now
-unfolding slotLineOf
+unfolding slot_line_of
 room c = omega (arith, simp length-append at c.requires.1.enough)
 
 number-requires : tie.Need-number-requires
@@ -34,7 +34,7 @@ same_length : tie.Need-same-length
 same_length c = search rules
 
 returns : tie.Need-returns
-unfolding slotLineOf
+unfolding slot_line_of
 returns c =
     let slot = c.before.before.before.before.before.before.before.before.before.before.before.before.before.before.before.number.ensures in
     let boards = c.before.before.before.before.before.before.before.before.before.before.before.choices.ensures in

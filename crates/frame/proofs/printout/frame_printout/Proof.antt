@@ -5,14 +5,14 @@ use mathlib.Core.Path.{sym}
 use native.Mathlib.Omega.{arith}
 use lib.ListN.{take, replicate}
 use lib.Seq.{length-take-le}
-use Rattle.plan.specs.Range.{mostFlows}
-use Rattle.plan.proofs.LineLaws.{square-small}
-use Rattle.planfile.proofs.LayoutLaws.{zeros-taken}
+use Rattle.plan.specs.Range.{most_flows}
+use Rattle.plan.proofs.LineLaws.{square_small}
+use Rattle.planfile.proofs.LayoutLaws.{zeros_taken}
 use Rattle.planpair.proofs.OwnedLaws.{rates-cover, rates-square}
-use Rattle.console.specs.Refused.{refusalLineOf}
-use Rattle.frame.specs.Printout.{headerOf, slotLinesOf, framePrintoutOf}
+use Rattle.console.specs.Refused.{refusal_line_of}
+use Rattle.frame.specs.Printout.{header_of, slot_lines_of, frame_printout_of}
 use Rattle.console.proofs.TextLaws.{room_as, room-first, room_next, written_as, written_on}
-use Rattle.frame.proofs.PrintoutLaws.{Decided, by-start}
+use Rattle.frame.proofs.PrintoutLaws.{Decided, by_start}
 use Rattle.frame.proofs.printout.frame_printout.Statement.{statement}
 use Rattle.frame.proofs.printout.frame_printout.Tie as tie
 
@@ -20,22 +20,22 @@ use Rattle.frame.proofs.printout.frame_printout.Tie as tie
 started : (c : tie.After-start) →
     let plan = c.before.before.before.before.before.args.plan in
     let n = plan.ports in
-    let store : List ℕ = take (n * n) (replicate mostFlows 0) in
+    let store : List ℕ = take (n * n) (replicate most_flows 0) in
     let r = c.start.result in
-    Decided r.verdict (framePrintoutOf plan) (headerOf n ++ slotLinesOf r.state store n 0 plan.frame) (refusalLineOf r.verdict)
-started c = by-start _ _ _ (zeros-taken _ c.before.before.before.before.before.requires.0) c.start.ensures
+    Decided r.verdict (frame_printout_of plan) (header_of n ++ slot_lines_of r.state store n 0 plan.frame) (refusal_line_of r.verdict)
+started c = by_start _ _ _ (zeros_taken _ c.before.before.before.before.before.requires.0) c.start.ensures
 
 mul-zeros : tie.Need-overflow-mul-zeros
-mul-zeros c = omega (arith, square-small _ c.before.before.requires.0)
+mul-zeros c = omega (arith, square_small _ c.before.before.requires.0)
 
 array-share-prefix-zeros : tie.Need-array-share-prefix-zeros
-array-share-prefix-zeros c = square-small _ c.before.before.requires.0
+array-share-prefix-zeros c = square_small _ c.before.before.requires.0
 
 slice-aggregate-store : tie.Need-slice-aggregate-store
-slice-aggregate-store c = sym (length-take-le _ (replicate mostFlows 0) (square-small _ c.before.before.before.requires.0))
+slice-aggregate-store c = sym (length-take-le _ (replicate most_flows 0) (square_small _ c.before.before.before.requires.0))
 
 mul-rates : tie.Need-overflow-mul-rates
-mul-rates c = omega (arith, square-small _ c.before.before.before.requires.0)
+mul-rates c = omega (arith, square_small _ c.before.before.before.requires.0)
 
 array-share-prefix-rates : tie.Need-array-share-prefix-rates
 array-share-prefix-rates c = let s = c.before.before.before in rates-cover s.args.plan _ s.well-formed.1.0 s.requires.0

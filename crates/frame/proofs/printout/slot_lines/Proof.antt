@@ -5,16 +5,16 @@ use mathlib.Core.Path.{◌≡◌, refl}
 use native.Mathlib.Omega.{arith}
 use lib.ListN.{length}
 use Rattle.console.specs.Text.{HasRoom}
-use Rattle.console.specs.Refused.{refusalLineOf}
-use Rattle.frame.specs.Printout.{slotLineOf, slotLinesOf}
-use Rattle.console.proofs.TextLaws.{room_as, room-first, nothing_written, Begun, begun-start, begun-next, begun-last, begun-room}
+use Rattle.console.specs.Refused.{refusal_line_of}
+use Rattle.frame.specs.Printout.{slot_line_of, slot_lines_of}
+use Rattle.console.proofs.TextLaws.{room_as, room-first, nothing_written, Begun, begun_start, begun-next, begun-last, begun-room}
 use Rattle.frame.proofs.PrintoutLaws.{Decided, lines_start, lines_end, by-step}
 use Rattle.frame.proofs.printout.slot_lines.Statement.{statement}
 use Rattle.frame.proofs.printout.slot_lines.Tie as tie
 
 abbrev invariant-loop : tie.invariant-loop
 invariant-loop out₀ from store n frame state₀ at₀ slot₀ out state at slot =
-    Begun out₀ from (slotLinesOf state₀ store n 0 frame) (slotLinesOf state store n slot (frame - slot)) out at
+    Begun out₀ from (slot_lines_of state₀ store n 0 frame) (slot_lines_of state store n slot (frame - slot)) out at
     × (length out ≡ length out₀)
     × (slot ≤ frame)
 
@@ -26,7 +26,7 @@ abbrev left : tie.After-step invariant-loop decreases-loop → List ℕ
 left c =
     let l = c.before.before.loop in
     let a = c.before.before.before.before.before.args in
-    slotLinesOf l.state a.store.now a.n l.slot (a.frame - l.slot)
+    slot_lines_of l.state a.store.now a.n l.slot (a.frame - l.slot)
 
 room : (c : tie.After-step invariant-loop decreases-loop) → HasRoom c.before.before.loop.out c.before.before.loop.at (left c)
 room c =
@@ -39,12 +39,12 @@ stepped : (c : tie.After-step invariant-loop decreases-loop) →
     let a = c.before.before.before.before.before.args in
     let r = c.step.result in
     Decided r.verdict (left c)
-    (slotLineOf l.slot r.moves r.sends a.n ++ slotLinesOf r.state a.store.now a.n (l.slot + 1) (a.frame - (l.slot + 1)))
-    (refusalLineOf r.verdict)
+    (slot_line_of l.slot r.moves r.sends a.n ++ slot_lines_of r.state a.store.now a.n (l.slot + 1) (a.frame - (l.slot + 1)))
+    (refusal_line_of r.verdict)
 stepped c = by-step _ _ _ _ _ _ c.before.loop-test.true c.step.ensures.0
 
 loop-holds : tie.Need-loop-init invariant-loop decreases-loop
-loop-holds c = (begun-start _ _ (lines_start _ _ _ _), refl, omega arith)
+loop-holds c = (begun_start _ _ (lines_start _ _ _ _), refl, omega arith)
 
 step-requires : tie.Need-step-requires invariant-loop decreases-loop
 step-requires c κs = search rules

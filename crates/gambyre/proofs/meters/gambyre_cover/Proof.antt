@@ -1,6 +1,6 @@
 use borrow.Author.Rules.{rules}
 use mathlib.Core.Path.{ap, ◌∙◌}
-use Rattle.records.specs.Records.{coverRecord}
+use Rattle.records.specs.Records.{cover_record}
 use Rattle.meter.proofs.AnswerLaws.{cover-only}
 use Rattle.gambyre.proofs.meters.gambyre_cover.Statement.{statement}
 use Rattle.gambyre.proofs.meters.gambyre_cover.Tie as tie
@@ -12,7 +12,7 @@ cover-record-requires : tie.Need-cover-record-requires
 cover-record-requires c κs = search rules
 
 returns : tie.Need-returns
-returns c = c.cover-record.ensures ∙ ap coverRecord (cover-only _ _ _ _ c.before.cover.ensures)
+returns c = c.cover-record.ensures ∙ ap cover_record (cover-only _ _ _ _ c.before.cover.ensures)
 
 pub gambyre-cover-spec : {M : Type 1} → statement M
 gambyre-cover-spec = tie.close (tie.spec cover-requires cover-record-requires returns)

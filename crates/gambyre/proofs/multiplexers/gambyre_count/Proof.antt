@@ -11,7 +11,7 @@ count-requires : tie.Need-count-requires
 count-requires c κs = search rules
 
 returns : tie.Need-returns
-returns c = c.count.ensures ∙ ap (count_of _) c.before.choice-in.ensures
+returns c = c.count.ensures ∙ ap (count_of _) c.before.choice_in_lem.ensures
 
 pub gambyre-count-spec : {M : Type 1} → statement M
 gambyre-count-spec = tie.close (tie.spec choice-in-requires count-requires returns)

@@ -4,7 +4,7 @@ use mathlib.Core.Path.{◌≡◌, refl, ap, ◌∙◌}
 use native.Mathlib.Omega.{arith}
 use lib.ListN.{length, length-set}
 use Rattle.planpair.specs.Rates.{overlaid}
-use Rattle.planpair.proofs.RateLaws.{overlaid-none, overlaid-next}
+use Rattle.planpair.proofs.RateLaws.{overlaid_none, overlaid_next}
 use Rattle.gambyre.specs.Written.{numbered}
 use Rattle.gambyre.proofs.plans.copy_row.Statement.{statement}
 use Rattle.gambyre.proofs.plans.copy_row.Tie as tie
@@ -19,7 +19,7 @@ smaller-requires : tie.Need-smaller-requires invariant-loop decreases-loop
 smaller-requires c κs = search rules
 
 loop-holds : tie.Need-loop-init invariant-loop decreases-loop
-loop-holds c = (omega arith, c.smaller.ensures, overlaid-none _ _, refl)
+loop-holds c = (omega arith, c.smaller.ensures, overlaid_none _ _, refl)
 
 mul-out : tie.Need-overflow-mul-out invariant-loop decreases-loop
 mul-out c = search rules
@@ -42,7 +42,7 @@ loop-less c = search rules
 loop-again : tie.Need-loop-preserved invariant-loop decreases-loop
 loop-again c =
     let at = c.before.before.loop in
-    (omega arith, at.invariant.1, overlaid-next _ _ _ _ at.invariant.2, simp length-set at.invariant.3)
+    (omega arith, at.invariant.1, overlaid_next _ _ _ _ at.invariant.2, simp length-set at.invariant.3)
 
 same_length : tie.Need-same-length invariant-loop decreases-loop
 same_length c = search rules

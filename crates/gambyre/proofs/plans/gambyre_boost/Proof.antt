@@ -1,6 +1,6 @@
 use borrow.Author.Rules.{rules}
 use mathlib.Core.Path.{ap}
-use Rattle.gambyre.specs.Written.{outcomeRecord}
+use Rattle.gambyre.specs.Written.{outcome_record}
 use Rattle.gambyre.proofs.plans.gambyre_boost.Statement.{statement}
 use Rattle.gambyre.proofs.plans.gambyre_boost.Tie as tie
 
@@ -14,7 +14,7 @@ same_length : tie.Need-same-length
 same_length c = search rules
 
 returns : tie.Need-returns
-returns c = rw c.verdict-number.ensures (ap outcomeRecord c.before.before.before.boost.ensures)
+returns c = rw c.verdict-number.ensures (ap outcome_record c.before.before.before.boost.ensures)
 
 pub gambyre-boost-spec : {M : Type 1} → statement M
 gambyre-boost-spec = tie.close (tie.spec boost-requires verdict-number-requires same_length returns)

@@ -1,6 +1,6 @@
 use borrow.Author.Rules.{rules}
 use mathlib.Core.Path.{ap}
-use Rattle.gambyre.specs.Written.{outcomeRecord}
+use Rattle.gambyre.specs.Written.{outcome_record}
 use Rattle.gambyre.proofs.plans.gambyre_read_text.Statement.{statement}
 use Rattle.gambyre.proofs.plans.gambyre_read_text.Tie as tie
 
@@ -14,7 +14,7 @@ same_length : tie.Need-same-length
 same_length c = search rules
 
 returns : tie.Need-returns
-returns c = rw c.verdict-number.ensures (ap outcomeRecord c.before.before.before.read-text.ensures)
+returns c = rw c.verdict-number.ensures (ap outcome_record c.before.before.before.read-text.ensures)
 
 pub gambyre-read-text-spec : {M : Type 1} → statement M
 gambyre-read-text-spec = tie.close (tie.spec read-text-requires verdict-number-requires same_length returns)

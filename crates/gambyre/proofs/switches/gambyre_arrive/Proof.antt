@@ -1,6 +1,6 @@
 use borrow.Author.Rules.{rules}
 use mathlib.Core.Path.{ap}
-use Rattle.gambyre.specs.Written.{arrivalRecord}
+use Rattle.gambyre.specs.Written.{arrival_record}
 use Rattle.gambyre.proofs.switches.gambyre_arrive.Statement.{statement}
 use Rattle.gambyre.proofs.switches.gambyre_arrive.Tie as tie
 
@@ -14,7 +14,7 @@ same_length : tie.Need-same-length
 same_length c = search rules
 
 returns : tie.Need-returns
-returns c = rw c.reply-record.ensures (ap arrivalRecord c.before.before.before.arrive.ensures)
+returns c = rw c.reply-record.ensures (ap arrival_record c.before.before.before.arrive.ensures)
 
 pub gambyre-arrive-spec : {M : Type 1} → statement M
 gambyre-arrive-spec =

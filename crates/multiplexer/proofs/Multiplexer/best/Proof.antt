@@ -3,16 +3,16 @@ use Prim.Native.Nat.{ℕ, ◌-◌, ◌≤◌}
 use mathlib.Core.Path.{◌≡◌, ap, ◌∙◌}
 use native.Mathlib.Omega.{arith}
 use native.Mathlib.Numerals.{add-one}
-use Rattle.multiplexer.specs.Choose.{bestOf, chooseOf}
+use Rattle.multiplexer.specs.Choose.{best_of, choose_of}
 use Rattle.multiplexer.specs.Candidate.{choice_of}
 use Rattle.multiplexer.specs.declared.Candidate.{Candidate}
-use Rattle.multiplexer.proofs.NumberLaws.{number_of, number-chosen}
-use Rattle.multiplexer.proofs.CandidateLaws.{soonest-small, Kept, kept-none, kept_next}
+use Rattle.multiplexer.proofs.NumberLaws.{number_of, number_chosen}
+use Rattle.multiplexer.proofs.CandidateLaws.{soonest_small, Kept, kept-none, kept_next}
 use Rattle.multiplexer.proofs.Multiplexer.best.Statement.{statement}
 use Rattle.multiplexer.proofs.Multiplexer.best.Tie as tie
 
 abbrev invariant-loop : tie.invariant-loop
-invariant-loop rates frame slot table served n best₀ f₀ best f = (f ≤ n) × Kept rates served frame best (bestOf rates served frame slot f)
+invariant-loop rates frame slot table served n best₀ f₀ best f = (f ≤ n) × Kept rates served frame best (best_of rates served frame slot f)
 
 abbrev decreases-loop : tie.decreases-loop
 decreases-loop rates frame slot table served n best₀ f₀ best f = n - f
@@ -24,7 +24,7 @@ rank-requires : tie.Need-rank-requires invariant-loop decreases-loop
 rank-requires c κs = search rules
 
 loop-holds : tie.Need-loop-init invariant-loop decreases-loop
-unfolding bestOf
+unfolding best_of
 loop-holds c = let a = c.before.before.before.before.before.args in (omega arith, rw c.rank.ensures (kept-none a.rates.now a.self.served a.frame))
 
 mul-rate : tie.Need-overflow-mul-rate invariant-loop decreases-loop
@@ -46,7 +46,7 @@ soonest-requires : tie.Need-soonest-requires invariant-loop decreases-loop
 soonest-requires c κs = search rules
 
 or-flow-requires : tie.Need-or-flow-requires invariant-loop decreases-loop
-or-flow-requires c κs = soonest-small _ _ _ _ _ c.soonest.ensures
+or-flow-requires c κs = soonest_small _ _ _ _ _ c.soonest.ensures
 
 add-f : tie.Need-overflow-add-f invariant-loop decreases-loop
 add-f c = search rules
@@ -55,24 +55,24 @@ loop-less : tie.Need-loop-smaller invariant-loop decreases-loop
 loop-less c = search rules
 
 loop-again : tie.Need-loop-preserved invariant-loop decreases-loop
-unfolding bestOf
+unfolding best_of
 loop-again c =
     let loop = c.before.before.before.before.loop in
     let a = c.before.before.before.before.before.before.before.before.before.before.args in
-    let so_far = bestOf a.rates.now a.self.served a.frame a.slot loop.f in
+    let so_far = best_of a.rates.now a.self.served a.frame a.slot loop.f in
     let next = kept_next a.rates.now a.self.served a.frame loop.f _ loop.best so_far loop.invariant.1 a.slot c.before.soonest.ensures in
     (omega arith, rw (c.or-flow.ensures, add-one) next)
 
 returns : tie.Need-returns invariant-loop decreases-loop
-unfolding chooseOf
+unfolding choose_of
 returns c =
     let loop = c.before.loop in
     let a = c.before.before.before.before.before.before.before.args in
     let n = c.before.before.before.flows in
     let e : loop.f ≡ n.result = omega arith in
     ap (λ (b : Candidate). choice_of b.flow) loop.invariant.1.is
-    ∙ ap (λ (m : ℕ). choice_of (number_of (bestOf a.rates.now a.self.served a.frame a.slot m))) (e ∙ n.ensures)
-    ∙ number-chosen a.rates.now a.self.served a.frame a.slot
+    ∙ ap (λ (m : ℕ). choice_of (number_of (best_of a.rates.now a.self.served a.frame a.slot m))) (e ∙ n.ensures)
+    ∙ number_chosen a.rates.now a.self.served a.frame a.slot
 
 pub best-spec : {M : Type 1} → statement M
 best-spec =

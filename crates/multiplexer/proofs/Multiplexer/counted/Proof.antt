@@ -5,16 +5,16 @@ use mathlib.Core.List.{List}
 use native.Mathlib.Omega.{arith}
 use native.Mathlib.Numerals.{add-one}
 use lib.ListN.{length, length-set}
-use Rattle.plan.specs.Range.{mostPorts}
+use Rattle.plan.specs.Range.{most_ports}
 use Rattle.multiplexer.proofs.NumberLaws.{CountedBelow, counted_next, counted-all}
 use Rattle.multiplexer.proofs.Multiplexer.counted.Statement.{statement}
 use Rattle.multiplexer.proofs.Multiplexer.counted.Tie as tie
 
 abbrev invariant-loop : tie.invariant-loop
-invariant-loop flow served after₀ g₀ after g = (g ≤ mostPorts) × (length after ≡ mostPorts) × CountedBelow served flow g after
+invariant-loop flow served after₀ g₀ after g = (g ≤ most_ports) × (length after ≡ most_ports) × CountedBelow served flow g after
 
 abbrev decreases-loop : tie.decreases-loop
-decreases-loop flow served after₀ g₀ after g = mostPorts - g
+decreases-loop flow served after₀ g₀ after g = most_ports - g
 
 loop-holds : tie.Need-loop-init invariant-loop decreases-loop
 loop-holds c = (omega arith, search rules, λ g l. absurd (omega arith))
@@ -54,8 +54,8 @@ returns : tie.Need-returns invariant-loop decreases-loop
 returns c =
     let loop = c.before.loop in
     let served = c.before.before.before.args.self.served in
-    let full : length served ≡ mostPorts = search rules in
-    let all : loop.g ≡ mostPorts = omega arith in
+    let full : length served ≡ most_ports = search rules in
+    let all : loop.g ≡ most_ports = omega arith in
     ap (λ (ks : List ℕ). record { served = ks }) (counted-all served _ loop.after full loop.invariant.1 (rw all at loop.invariant.2))
 
 pub counted_spec : {M : Type 1} → statement M

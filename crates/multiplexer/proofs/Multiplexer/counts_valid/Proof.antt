@@ -5,13 +5,13 @@ use native.Mathlib.Omega.{arith}
 use native.Mathlib.Numerals.{add-one}
 use lib.ListN.{length, get_or}
 use Rattle.plan.specs.Below.{all_below}
-use Rattle.multiplexer.specs.Valid.{countValid, portValid}
+use Rattle.multiplexer.specs.Valid.{count_valid, port_valid}
 use Rattle.multiplexer.proofs.Multiplexer.counts_valid.Statement.{statement}
 use Rattle.multiplexer.proofs.Multiplexer.counts_valid.Tie as tie
 
 abbrev invariant-loop : tie.invariant-loop
 invariant-loop rates n across along p slot served valid₀ f₀ valid f =
-    (f ≤ n) × (valid ≡ all_below (λ g. countValid slot (get_or rates (p * across + g * along) 0) (get_or served g 0)) f)
+    (f ≤ n) × (valid ≡ all_below (λ g. count_valid slot (get_or rates (p * across + g * along) 0) (get_or served g 0)) f)
 
 abbrev decreases-loop : tie.decreases-loop
 decreases-loop rates n across along p slot served valid₀ f₀ valid f = n - f
@@ -54,10 +54,10 @@ loop-less : tie.Need-loop-smaller invariant-loop decreases-loop
 loop-less c = search rules
 
 loop-again : tie.Need-loop-preserved invariant-loop decreases-loop
-loop-again c = (omega arith, rw (add-one, c.before.before.before.loop.invariant.1, c.count-valid.ensures) refl)
+loop-again c = (omega arith, rw (add-one, c.before.before.before.loop.invariant.1, c.count_valid_lem.ensures) refl)
 
 returns : tie.Need-returns invariant-loop decreases-loop
-unfolding portValid
+unfolding port_valid
 returns c =
     let loop = c.before.loop in
     let all : loop.f ≡ c.before.before.before.before.args.n = omega arith in

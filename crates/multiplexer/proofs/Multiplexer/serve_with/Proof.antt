@@ -1,7 +1,7 @@
 use borrow.Author.Rules.{rules}
 use mathlib.Core.Path.{ap, ◌∙◌}
 use lib.ListN.{length}
-use Rattle.multiplexer.specs.Serve.{servedWith}
+use Rattle.multiplexer.specs.Serve.{served_with}
 use Rattle.multiplexer.specs.declared.Choice.{Choice}
 use Rattle.multiplexer.proofs.Multiplexer.serve_with.Statement.{statement}
 use Rattle.multiplexer.proofs.Multiplexer.serve_with.Tie as tie
@@ -15,7 +15,7 @@ after-requires c κs = search rules
 returns : tie.Need-returns
 returns c =
     let a = c.before.before.before.before.args in
-    c.after.ensures ∙ ap (λ (x : Choice). servedWith a.self x (length a.rates.now) a.frame a.slot) c.before.best.ensures
+    c.after.ensures ∙ ap (λ (x : Choice). served_with a.self x (length a.rates.now) a.frame a.slot) c.before.best.ensures
 
 pub serve-with-spec : {M : Type 1} → statement M
 serve-with-spec = tie.close (tie.spec best-requires after-requires returns)

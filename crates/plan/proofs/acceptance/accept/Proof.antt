@@ -5,22 +5,22 @@ use mathlib.Core.Path.{◌≡◌, ◌∙◌}
 use lib.Dec.{eqb}
 use lib.ListN.{length}
 use borrow.Author.Tests.{eqb-true}
-use Rattle.plan.specs.Range.{portsInRange, frameInRange}
-use Rattle.plan.specs.Lines.{rowSum, column_sum}
-use Rattle.plan.specs.Accept.{withinFrame, acceptOf}
+use Rattle.plan.specs.Range.{ports_in_range, frame_in_range}
+use Rattle.plan.specs.Lines.{row_sum, column_sum}
+use Rattle.plan.specs.Accept.{within_frame, accept_of}
 use Rattle.plan.proofs.TestLaws.{failed, passed}
-use Rattle.plan.proofs.RangeLaws.{ports-range}
-use Rattle.plan.proofs.LineLaws.{rows_in, columns-in}
-use Rattle.plan.proofs.AcceptLaws.{rows-within, columns-within}
+use Rattle.plan.proofs.RangeLaws.{ports_range}
+use Rattle.plan.proofs.LineLaws.{rows_in, columns_in_lem}
+use Rattle.plan.proofs.AcceptLaws.{rows_within, columns_within}
 use Rattle.plan.proofs.acceptance.accept.Statement.{statement}
 use Rattle.plan.proofs.acceptance.accept.Tie as tie
 
 -- What each test has shown once it is passed.
 
-ports-pass : (c : tie.Else1) → portsInRange c.before.before.before.args.n ≡ true
+ports-pass : (c : tie.Else1) → ports_in_range c.before.before.before.args.n ≡ true
 ports-pass c = passed c.before.ports-in-range.ensures c.if1.false
 
-frame-pass : (c : tie.Else2) → frameInRange c.before.before.before.before.before.args.t ≡ true
+frame-pass : (c : tie.Else2) → frame_in_range c.before.before.before.before.before.args.t ≡ true
 frame-pass c = passed c.before.frame-in-range.ensures c.if2.false
 
 square-pass : (c : tie.Else3) → let a = c.before.before.before.before.before.before.before.args in eqb (length a.rates.now) (a.n * a.n) ≡ true
@@ -28,44 +28,44 @@ square-pass c = passed c.before.is-square.ensures c.if3.false
 
 -- The two calls that add up lines, in the words of the definition.
 
-rows-test : (c : tie.After-lines-fit) → let a = c.before.before.before.before.before.before.before.before.args in c.lines_fit.result ≡ withinFrame (rowSum a.rates.now a.n) a.n a.t
+rows-test : (c : tie.After-lines-fit) → let a = c.before.before.before.before.before.before.before.before.args in c.lines_fit.result ≡ within_frame (row_sum a.rates.now a.n) a.n a.t
 rows-test c =
     let a = c.before.before.before.before.before.before.before.before.args in
-    c.lines_fit.ensures ∙ rows-within a.rates.now a.n a.t
+    c.lines_fit.ensures ∙ rows_within a.rates.now a.n a.t
 
-columns-test : (c : tie.After-lines-fit2) → let a = c.before.before.before.before.before.before.before.before.before.before.args in c.lines-fit2.result ≡ withinFrame (column_sum a.rates.now a.n) a.n a.t
+columns-test : (c : tie.After-lines-fit2) → let a = c.before.before.before.before.before.before.before.before.before.before.args in c.lines-fit2.result ≡ within_frame (column_sum a.rates.now a.n) a.n a.t
 columns-test c =
     let a = c.before.before.before.before.before.before.before.before.before.before.args in
-    c.lines-fit2.ensures ∙ columns-within a.rates.now a.n a.t
+    c.lines-fit2.ensures ∙ columns_within a.rates.now a.n a.t
 
 ports-in-range-requires : tie.Need-ports-in-range-requires
 ports-in-range-requires c κs = search rules
 
 returns : tie.Need-returns
-unfolding acceptOf
+unfolding accept_of
 returns c = simp (failed c.before.ports-in-range.ensures c.if1.true)
 
 frame-in-range-requires : tie.Need-frame-in-range-requires
 frame-in-range-requires c κs = search rules
 
 returns-2 : tie.Need-returns-2
-unfolding acceptOf
+unfolding accept_of
 returns-2 c = simp (ports-pass c.before.before, failed c.before.frame-in-range.ensures c.if2.true)
 
 is-square-requires : tie.Need-is-square-requires
 is-square-requires c κs = search rules
 
 returns-3 : tie.Need-returns-3
-unfolding acceptOf
+unfolding accept_of
 returns-3 c =
     let c2 = c.before.before in
     simp (ports-pass c2.before.before, frame-pass c2, failed c.before.is-square.ensures c.if3.true)
 
 lines-fit-requires : tie.Need-lines-fit-requires
-lines-fit-requires c κs = rows_in _ _ (ports-range _ (ports-pass c.before.before.before.before)).1 (eqb-true _ _ (square-pass c))
+lines-fit-requires c κs = rows_in _ _ (ports_range _ (ports-pass c.before.before.before.before)).1 (eqb-true _ _ (square-pass c))
 
 returns-4 : tie.Need-returns-4
-unfolding acceptOf
+unfolding accept_of
 returns-4 c =
     let c3 = c.before.before in
     let c2 = c3.before.before in
@@ -79,10 +79,10 @@ returns-4 c =
 lines-fit-requires-2 : tie.Need-lines-fit-requires-2
 lines-fit-requires-2 c κs =
     let c3 = c.before.before in
-    columns-in _ _ (ports-range _ (ports-pass c3.before.before.before.before)).1 (eqb-true _ _ (square-pass c3))
+    columns_in_lem _ _ (ports_range _ (ports-pass c3.before.before.before.before)).1 (eqb-true _ _ (square-pass c3))
 
 returns-5 : tie.Need-returns-5
-unfolding acceptOf
+unfolding accept_of
 returns-5 c =
     let c4 = c.before.before in
     let c3 = c4.before.before in
@@ -96,7 +96,7 @@ returns-5 c =
     )
 
 returns-6 : tie.Need-returns-6
-unfolding acceptOf
+unfolding accept_of
 returns-6 c =
     let c4 = c.before.before in
     let c3 = c4.before.before in

@@ -4,13 +4,13 @@ use mathlib.Core.Path.{◌≡◌, ap, ◌∙◌}
 use native.Mathlib.Omega.{arith}
 use native.Mathlib.Numerals.{add-one}
 use lib.ListN.{length, get_or}
-use Rattle.plan.specs.Below.{sumBelow}
-use Rattle.plan.specs.Lines.{lineSum}
+use Rattle.plan.specs.Below.{sum_below}
+use Rattle.plan.specs.Lines.{line_sum}
 use Rattle.plan.proofs.lines.line_sum.Statement.{statement}
 use Rattle.plan.proofs.lines.line_sum.Tie as tie
 
 abbrev invariant-loop : tie.invariant-loop
-invariant-loop list n across along k sum₀ m₀ sum m = (m ≤ n) × (sum ≤ 65535 * m) × (sum ≡ sumBelow (λ j. get_or list (k * across + j * along) 0) m)
+invariant-loop list n across along k sum₀ m₀ sum m = (m ≤ n) × (sum ≤ 65535 * m) × (sum ≡ sum_below (λ j. get_or list (k * across + j * along) 0) m)
 
 abbrev decreases-loop : tie.decreases-loop
 decreases-loop list n across along k sum₀ m₀ sum m = n - m
@@ -53,10 +53,10 @@ loop-again : tie.Need-loop-preserved invariant-loop decreases-loop
 loop-again c = (omega arith, omega arith, rw add-one (omega (arith, c.wide.ensures.0)))
 
 returns : tie.Need-returns invariant-loop decreases-loop
-unfolding lineSum
+unfolding line_sum
 returns c =
     let e : c.before.loop.m ≡ c.before.before.before.args.n = omega arith in
-    c.before.loop.invariant.2 ∙ ap (sumBelow _) e
+    c.before.loop.invariant.2 ∙ ap (sum_below _) e
 
 pub line-sum-spec : {M : Type 1} → statement M
 line-sum-spec =

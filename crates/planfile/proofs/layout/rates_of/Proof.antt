@@ -4,20 +4,20 @@ use mathlib.Core.Path.{◌≡◌, ap, ◌∙◌}
 use native.Mathlib.Numerals.{add-one}
 use native.Mathlib.Omega.{arith}
 use lib.ListN.{length}
-use Rattle.plan.specs.Range.{mostFlows}
-use Rattle.planfile.specs.Layout.{ratesOf, paddedTo, padded}
-use Rattle.planfile.proofs.LayoutLaws.{padded-next}
+use Rattle.plan.specs.Range.{most_flows}
+use Rattle.planfile.specs.Layout.{rates_of, padded_to, padded}
+use Rattle.planfile.proofs.LayoutLaws.{padded_next}
 use Rattle.planfile.proofs.layout.rates_of.Statement.{statement}
 use Rattle.planfile.proofs.layout.rates_of.Tie as tie
 
 abbrev invariant-loop : tie.invariant-loop
-invariant-loop bytes count rates₀ p₀ rates p = (p ≤ count) × (mostFlows ≡ length rates) × (rates ≡ padded (ratesOf bytes p))
+invariant-loop bytes count rates₀ p₀ rates p = (p ≤ count) × (most_flows ≡ length rates) × (rates ≡ padded (rates_of bytes p))
 
 abbrev decreases-loop : tie.decreases-loop
 decreases-loop bytes count rates₀ p₀ rates p = count - p
 
 loop-holds : tie.Need-loop-init invariant-loop decreases-loop
-unfolding paddedTo ratesOf
+unfolding padded_to rates_of
 loop-holds c = search rules
 
 mul-word-at : tie.Need-overflow-mul-word-at invariant-loop decreases-loop
@@ -45,13 +45,13 @@ loop-again : tie.Need-loop-preserved invariant-loop decreases-loop
 loop-again c =
     let b = c.before.before.before.before.args.bytes.now in
     let p = c.before.before.loop.p in
-    (omega arith, search rules, rw (add-one, c.before.before.loop.invariant.2, c.word_at.ensures) (padded-next b p (omega arith)))
+    (omega arith, search rules, rw (add-one, c.before.before.loop.invariant.2, c.word_at.ensures) (padded_next b p (omega arith)))
 
 returns : tie.Need-returns invariant-loop decreases-loop
 returns c =
     let start = c.before.before.before in
     let e : c.before.loop.p ≡ start.args.count = omega arith in
-    c.before.loop.invariant.2 ∙ ap (λ (k : ℕ). padded (ratesOf start.args.bytes.now k)) e
+    c.before.loop.invariant.2 ∙ ap (λ (k : ℕ). padded (rates_of start.args.bytes.now k)) e
 
 pub rates-of-spec : {M : Type 1} → statement M
 rates-of-spec =

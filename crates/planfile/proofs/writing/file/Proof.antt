@@ -5,16 +5,16 @@ use mathlib.Core.Path.{◌≡◌, refl, sym, ap, ◌∙◌}
 use native.Mathlib.Numerals.{add-one}
 use native.Mathlib.Omega.{arith}
 use lib.ListN.{length, length-set}
-use Rattle.planfile.specs.Layout.{longestFile, paddedTo}
-use Rattle.planfile.specs.Write.{head_of, rateBytes, fileOf}
-use Rattle.planfile.proofs.LayoutLaws.{padded-length}
-use Rattle.planfile.proofs.WriteLaws.{head-room, file-next}
+use Rattle.planfile.specs.Layout.{longest_file, padded_to}
+use Rattle.planfile.specs.Write.{head_of, rate_bytes, file_of}
+use Rattle.planfile.proofs.LayoutLaws.{padded_length}
+use Rattle.planfile.proofs.WriteLaws.{head_room_lem, file_next}
 use Rattle.planfile.proofs.writing.file.Statement.{statement}
 use Rattle.planfile.proofs.writing.file.Tie as tie
 
 abbrev invariant-loop : tie.invariant-loop
 invariant-loop n t rates bytes₀ p₀ p-end bytes p =
-    (p ≤ length rates) × (p-end ≡ length rates) × (longestFile ≡ length bytes) × (bytes ≡ paddedTo longestFile (head_of n t ++ rateBytes rates p))
+    (p ≤ length rates) × (p-end ≡ length rates) × (longest_file ≡ length bytes) × (bytes ≡ padded_to longest_file (head_of n t ++ rate_bytes rates p))
 
 abbrev decreases-loop : tie.decreases-loop
 decreases-loop n t rates bytes₀ p₀ p-end bytes p = length rates - p
@@ -23,11 +23,11 @@ head-requires : tie.Need-head-requires invariant-loop decreases-loop
 head-requires c κs = search rules
 
 loop-holds : tie.Need-loop-init invariant-loop decreases-loop
-unfolding rateBytes
+unfolding rate_bytes
 loop-holds c =
     let a = c.before.before.args in
-    let start : c.head.result ≡ paddedTo longestFile (head_of a.n a.t ++ []) = rw append-nil c.head.ensures in
-    (omega arith, refl, sym (ap length c.head.ensures ∙ padded-length longestFile (head_of a.n a.t) (head-room a.n a.t)), start)
+    let start : c.head.result ≡ padded_to longest_file (head_of a.n a.t ++ []) = rw append-nil c.head.ensures in
+    (omega arith, refl, sym (ap length c.head.ensures ∙ padded_length longest_file (head_of a.n a.t) (head_room_lem a.n a.t)), start)
 
 mul-rate : tie.Need-overflow-mul-rate invariant-loop decreases-loop
 mul-rate c = search rules
@@ -69,11 +69,11 @@ loop-again c =
       omega arith,
       refl,
       simp length-set at.invariant.2,
-      rw (at.invariant.3, c.before.low.ensures, c.high.ensures, add-one at.p) (file-next a.n a.t a.rates.now at.p (omega arith)),
+      rw (at.invariant.3, c.before.low.ensures, c.high.ensures, add-one at.p) (file_next a.n a.t a.rates.now at.p (omega arith)),
     )
 
 returns : tie.Need-returns invariant-loop decreases-loop
-unfolding fileOf
+unfolding file_of
 returns c =
     let at = c.before.loop in
     let all : at.p ≡ length c.before.before.before.before.args.rates.now = omega arith in

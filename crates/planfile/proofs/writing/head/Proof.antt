@@ -1,6 +1,6 @@
 use borrow.Author.Rules.{rules}
 use mathlib.Core.Path.{refl}
-use Rattle.planfile.specs.Layout.{paddedTo}
+use Rattle.planfile.specs.Layout.{padded_to}
 use Rattle.planfile.specs.Write.{head_of}
 use Rattle.planfile.proofs.writing.head.Statement.{statement}
 use Rattle.planfile.proofs.writing.head.Tie as tie
@@ -48,7 +48,7 @@ array-write-bytes-8 : tie.Need-array-write-bytes-8
 array-write-bytes-8 c = search rules
 
 returns : tie.Need-returns
-unfolding paddedTo head_of
+unfolding padded_to head_of
 returns c = rw (c.high2.ensures, c.before.low2.ensures, c.before.before.high.ensures, c.before.before.before.low.ensures) refl
 
 pub head_spec : {M : Type 1} → statement M

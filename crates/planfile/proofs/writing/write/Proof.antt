@@ -3,9 +3,9 @@ use mathlib.Core.Path.{refl, sym, ◌∙◌}
 use native.Mathlib.Omega.{arith}
 use Rattle.plan.specs.Accept.{IsPlan}
 use Rattle.plan.proofs.AcceptLaws.{accepted}
-use Rattle.plan.proofs.LineLaws.{square-small}
-use Rattle.planfile.specs.Write.{writingOf, writeOf}
-use Rattle.planfile.proofs.WriteLaws.{file-length}
+use Rattle.plan.proofs.LineLaws.{square_small}
+use Rattle.planfile.specs.Write.{writing_of, write_of}
+use Rattle.planfile.proofs.WriteLaws.{file_length_lem}
 use Rattle.planfile.proofs.writing.write.Statement.{statement}
 use Rattle.planfile.proofs.writing.write.Tie as tie
 
@@ -20,7 +20,7 @@ plan : (c : tie.After-enum-told) → let a = c.before.before.before.before.args 
 plan c = let a = c.before.before.before.before.args in accepted a.n a.t a.rates.now (sym c.before.before.accept.ensures ∙ c.enum_told.given.1)
 
 file-requires : tie.Need-file-requires
-file-requires c κs = let p = plan c in (omega arith, omega arith, omega (arith, square-small _ p.few-ports))
+file-requires c κs = let p = plan c in (omega arith, omega arith, omega (arith, square_small _ p.few_ports))
 
 mul-t10 : tie.Need-overflow-mul-t10
 mul-t10 c = search rules
@@ -35,13 +35,13 @@ no-file-requires : tie.Need-no-file-requires
 no-file-requires c κs = search rules
 
 returns : tie.Need-returns
-unfolding writeOf writingOf
+unfolding write_of writing_of
 returns c =
     let a = c.before.before.before.before.before.args in
-    rw (sym c.before.before.before.accept.ensures, c.before.enum_told.given.1, c.file.ensures, file-length a.n a.t a.rates.now) refl
+    rw (sym c.before.before.before.accept.ensures, c.before.enum_told.given.1, c.file.ensures, file_length_lem a.n a.t a.rates.now) refl
 
 returns-2 : tie.Need-returns-2
-unfolding writeOf writingOf
+unfolding write_of writing_of
 returns-2 c = rw (sym c.before.before.before.before.accept.ensures, c.before.before.refusal.given.1) c.no-file.ensures
 
 pub write_spec : {M : Type 1} → statement M

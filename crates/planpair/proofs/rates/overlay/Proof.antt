@@ -3,7 +3,7 @@ use Prim.Native.Nat.{◌-◌, ◌≤◌}
 use mathlib.Core.Path.{◌≡◌, ap, ◌∙◌}
 use native.Mathlib.Omega.{arith}
 use Rattle.planpair.specs.Rates.{overlaid}
-use Rattle.planpair.proofs.RateLaws.{overlaid-none, overlaid-next}
+use Rattle.planpair.proofs.RateLaws.{overlaid_none, overlaid_next}
 use Rattle.planpair.proofs.rates.overlay.Statement.{statement}
 use Rattle.planpair.proofs.rates.overlay.Tie as tie
 
@@ -14,7 +14,7 @@ abbrev decreases-loop : tie.decreases-loop
 decreases-loop list count rates₀ k₀ rates k = count - k
 
 loop-holds : tie.Need-loop-init invariant-loop decreases-loop
-loop-holds c = (overlaid-none _ _, omega arith)
+loop-holds c = (overlaid_none _ _, omega arith)
 
 mul-rates : tie.Need-overflow-mul-rates invariant-loop decreases-loop
 mul-rates c = search rules
@@ -35,7 +35,7 @@ loop-less : tie.Need-loop-smaller invariant-loop decreases-loop
 loop-less c = search rules
 
 loop-again : tie.Need-loop-preserved invariant-loop decreases-loop
-loop-again c = (overlaid-next _ _ _ _ c.before.before.loop.invariant.0, omega arith)
+loop-again c = (overlaid_next _ _ _ _ c.before.before.loop.invariant.0, omega arith)
 
 returns : tie.Need-returns invariant-loop decreases-loop
 returns c = let e : c.before.loop.k ≡ c.before.before.args.count = omega arith in c.before.loop.invariant.0 ∙ ap (overlaid _ _) e

@@ -4,32 +4,32 @@ use mathlib.Core.Bool.{true, false}
 use mathlib.Core.Path.{ap, sym, ◌∙◌}
 use native.Mathlib.Omega.{arith}
 use lib.Seq.{length-take-le}
-use Rattle.refusal.specs.Chain.{ifAccepted}
+use Rattle.refusal.specs.Chain.{if_accepted}
 use Rattle.refusal.specs.declared.Verdict.{Verdict}
-use Rattle.plan.specs.Range.{mostPorts}
+use Rattle.plan.specs.Range.{most_ports}
 use Rattle.plan.proofs.TestLaws.{failed, passed}
-use Rattle.plan.proofs.RangeLaws.{ports-range}
-use Rattle.plan.proofs.AcceptLaws.{ports-decide}
-use Rattle.plan.proofs.LineLaws.{square-small}
-use Rattle.planpair.specs.Valid.{planValid}
+use Rattle.plan.proofs.RangeLaws.{ports_range}
+use Rattle.plan.proofs.AcceptLaws.{ports_decide}
+use Rattle.plan.proofs.LineLaws.{square_small}
+use Rattle.planpair.specs.Valid.{plan_valid}
 use Rattle.planpair.proofs.valid.plan_valid.Statement.{statement}
 use Rattle.planpair.proofs.valid.plan_valid.Tie as tie
 
-few-ports : (c : tie.Else1) → c.before.before.before.args.n ≤ mostPorts
-few-ports c = (ports-range _ (passed c.before.ports-in-range.ensures c.if1.false)).1
+few_ports : (c : tie.Else1) → c.before.before.before.args.n ≤ most_ports
+few_ports c = (ports_range _ (passed c.before.ports-in-range.ensures c.if1.false)).1
 
 ports-in-range-requires : tie.Need-ports-in-range-requires
 ports-in-range-requires c κs = search rules
 
 returns : tie.Need-returns
-unfolding planValid
-returns c = ap (λ (v : Verdict). ifAccepted v true false) (sym (ports-decide _ _ _ (failed c.before.ports-in-range.ensures c.if1.true)))
+unfolding plan_valid
+returns c = ap (λ (v : Verdict). if_accepted v true false) (sym (ports_decide _ _ _ (failed c.before.ports-in-range.ensures c.if1.true)))
 
 mul-accept : tie.Need-overflow-mul-accept
-mul-accept c = omega (arith, square-small _ (few-ports c))
+mul-accept c = omega (arith, square_small _ (few_ports c))
 
 slice-aggregate-accept : tie.Need-slice-aggregate-accept
-slice-aggregate-accept c = sym (length-take-le _ _ (omega (arith, c.before.before.before.before.requires, square-small _ (few-ports c.before))))
+slice-aggregate-accept c = sym (length-take-le _ _ (omega (arith, c.before.before.before.before.requires, square_small _ (few_ports c.before))))
 
 accept-requires : tie.Need-accept-requires
 accept-requires c κs = search rules
@@ -41,12 +41,12 @@ enum-told-2 : tie.Need-enum-told-2
 enum-told-2 c = search rules
 
 returns-2 : tie.Need-returns-2
-unfolding planValid
-returns-2 c = ap (λ (v : Verdict). ifAccepted v true false) (sym c.enum_told.given.1 ∙ c.before.before.accept.ensures)
+unfolding plan_valid
+returns-2 c = ap (λ (v : Verdict). if_accepted v true false) (sym c.enum_told.given.1 ∙ c.before.before.accept.ensures)
 
 returns-3 : tie.Need-returns-3
-unfolding planValid
-returns-3 c = ap (λ (v : Verdict). ifAccepted v true false) (sym c.enum-told2.given.1 ∙ c.before.before.accept.ensures)
+unfolding plan_valid
+returns-3 c = ap (λ (v : Verdict). if_accepted v true false) (sym c.enum-told2.given.1 ∙ c.before.before.accept.ensures)
 
 pub plan-valid-spec : {M : Type 1} → statement M
 plan-valid-spec =

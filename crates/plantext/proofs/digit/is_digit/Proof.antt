@@ -1,14 +1,14 @@
 use borrow.Author.Tests.{lt-leb, le-leb}
-use Rattle.plantext.specs.Bytes.{isDigit}
+use Rattle.plantext.specs.Bytes.{is_digit}
 use Rattle.plantext.proofs.digit.is_digit.Statement.{statement}
 use Rattle.plantext.proofs.digit.is_digit.Tie as tie
 
 returns : tie.Need-returns
-unfolding isDigit
+unfolding is_digit
 returns c = simp (lt-leb _ _ c.if1.true)
 
 returns-2 : tie.Need-returns-2
-unfolding isDigit
+unfolding is_digit
 returns-2 c = simp (le-leb _ _ c.if1.false)
 
 pub is-digit-spec : {M : Type 1} → statement M

@@ -8,9 +8,9 @@ use native.Mathlib.Omega.{arith}
 use lib.ListN.{length, take, drop}
 use lib.Seq.{take_all}
 use Rattle.plan.proofs.LineLaws.{row_within}
-use Rattle.plantext.specs.Bytes.{lineEnd}
+use Rattle.plantext.specs.Bytes.{line_end}
 use Rattle.plantext.specs.Place.{placed}
-use Rattle.plantext.specs.Values.{parsed, skip, before, series, recordOf}
+use Rattle.plantext.specs.Values.{parsed, skip, before, series, record_of}
 use Rattle.plantext.proofs.PlaceLaws.{series-next, no-mark, no_item}
 use Rattle.plantext.proofs.RowLaws.{row-size, put-size, put-taken}
 use Rattle.plantext.proofs.records.read_records.Statement.{statement}
@@ -18,7 +18,7 @@ use Rattle.plantext.proofs.records.read_records.Tie as tie
 
 abbrev invariant-loop : tie.invariant-loop
 invariant-loop text n list₀ at₀ k₀ list at k =
-    (k ≤ n) × (length list ≡ n * n) × (series (recordOf n) lineEnd k text ≡ parsed (take (k * n) list) (drop at text))
+    (k ≤ n) × (length list ≡ n * n) × (series (record_of n) line_end k text ≡ parsed (take (k * n) list) (drop at text))
 
 abbrev decreases-loop : tie.decreases-loop
 decreases-loop text n list₀ at₀ k₀ list at k = n - k
@@ -43,8 +43,8 @@ returns : tie.Need-returns invariant-loop decreases-loop
 returns c =
     let at = c.before.before.before.before.loop in
     let text = c.before.before.before.before.before.before.before.args.text.now in
-    let mark = sym c.before.before.record-start.ensures ∙ ap (placed text []) c.enum_told.given.1 in
-    sym (no-mark _ lineEnd _ at.k _ _ at.invariant.2 _ (omega arith) mark)
+    let mark = sym c.before.before.record_start.ensures ∙ ap (placed text []) c.enum_told.given.1 in
+    sym (no-mark _ line_end _ at.k _ _ at.invariant.2 _ (omega arith) mark)
 
 -- the row of a record is within the list
 inside : (c : tie.After-known-told invariant-loop decreases-loop) → let k = c.before.before.before.before.before.loop.k in let n = c.before.before.before.before.before.before.before.before.args.n in k * n + n ≤ n * n
@@ -52,10 +52,10 @@ inside c = row_within _ _ _ c.before.before.before.before.loop-test.true
 
 -- the place of a record
 started : (c : tie.After-known-told invariant-loop decreases-loop) → let text = c.before.before.before.before.before.before.before.before.args.text.now in let at = c.before.before.before.before.before.loop in
-    skip (before lineEnd at.k) (drop at.at text) ≡ parsed [] (drop c.before.start.given.0.0 text)
+    skip (before line_end at.k) (drop at.at text) ≡ parsed [] (drop c.before.start.given.0.0 text)
 started c =
     let text = c.before.before.before.before.before.before.before.before.args.text.now in
-    sym c.before.before.before.record-start.ensures ∙ ap (placed text []) c.before.start.given.1
+    sym c.before.before.before.record_start.ensures ∙ ap (placed text []) c.before.start.given.1
 
 mul-first : tie.Need-overflow-mul-first invariant-loop decreases-loop
 mul-first c = omega (arith, inside c)
@@ -92,7 +92,7 @@ row_back c =
 
 -- what the record was read as, for n fields
 answered : (c : tie.After-slice-known2 invariant-loop decreases-loop) → let start = c.before.before.before.before in let a = start.before.before.before.before.before.before.before.before.args in
-    recordOf a.n (drop start.before.start.given.0.0 a.text.now) ≡ placed a.text.now c.before.before.read-record.new.1.1.0 c.before.before.read-record.result
+    record_of a.n (drop start.before.start.given.0.0 a.text.now) ≡ placed a.text.now c.before.before.read-record.new.1.1.0 c.before.before.read-record.result
 answered c =
     let start = c.before.before.before.before in
     let at = start.before.before.before.before.before.loop in
@@ -115,7 +115,7 @@ returns-2 c =
     let at = start.before.before.before.before.before.loop in
     let a = start.before.before.before.before.before.before.before.before.args in
     let none = answered back ∙ ap (placed a.text.now back.before.before.read-record.new.1.1.0) c.enum-told2.given.1 in
-    sym (no_item (recordOf a.n) lineEnd _ at.k _ _ at.invariant.2 _ _ (omega arith) (started start) none)
+    sym (no_item (record_of a.n) line_end _ at.k _ _ at.invariant.2 _ _ (omega arith) (started start) none)
 
 add-k : tie.Need-overflow-add-k invariant-loop decreases-loop
 add-k c = search rules
@@ -135,7 +135,7 @@ loop-again c =
       omega arith,
       put-size at.list at.k a.n below at.invariant.1 row (row_back back),
       rw (put-taken at.list at.k a.n below at.invariant.1 row (row_back back), add-one)
-          (series-next (recordOf a.n) lineEnd _ at.k _ _ at.invariant.2 _ _ _ (started start) new),
+          (series-next (record_of a.n) line_end _ at.k _ _ at.invariant.2 _ _ _ (started start) new),
     )
 
 same-length-3 : tie.Need-same-length-3 invariant-loop decreases-loop

@@ -4,7 +4,7 @@ use mathlib.Core.Path.{sym, ap, ◌∙◌}
 use lib.ListN.{drop}
 use Rattle.plantext.specs.Place.{placed}
 use Rattle.plantext.specs.Values.{skip}
-use Rattle.plantext.proofs.PlaceLaws.{then_rule, then-nothing, skip_both}
+use Rattle.plantext.proofs.PlaceLaws.{then_rule, then_nothing, skip_both}
 use Rattle.plantext.proofs.scan.skip_line_end.Statement.{statement}
 use Rattle.plantext.proofs.scan.skip_line_end.Tie as tie
 
@@ -23,7 +23,7 @@ returns c =
     let a = c.before.before.before.before.args in
     let text = a.text.now in
     let first = sym c.before.before.skip.ensures ∙ ap (placed text []) c.enum_told.given.1 in
-    sym (skip_both (13 ∷ []) (10 ∷ []) (drop a.at text) ∙ then-nothing _ (skip (10 ∷ [])) first)
+    sym (skip_both (13 ∷ []) (10 ∷ []) (drop a.at text) ∙ then_nothing _ (skip (10 ∷ [])) first)
 
 skip-requires-2 : tie.Need-skip-requires-2
 skip-requires-2 c κs = search rules

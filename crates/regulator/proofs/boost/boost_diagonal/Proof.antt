@@ -3,22 +3,22 @@ use Prim.Native.Nat.{◌-◌, ◌≤◌}
 use mathlib.Core.Path.{◌≡◌, refl, ap, ◌∙◌}
 use native.Mathlib.Omega.{arith}
 use Rattle.plan.specs.Accept.{IsPlan}
-use Rattle.regulator.specs.Sums.{largerSum, LineSums}
-use Rattle.regulator.specs.Boost.{boostDiagonal}
-use Rattle.regulator.proofs.FlowLaws.{larger-kept}
-use Rattle.regulator.proofs.PlaceLaws.{place-within, place-turn}
+use Rattle.regulator.specs.Sums.{larger_sum, LineSums}
+use Rattle.regulator.specs.Boost.{boost_diagonal}
+use Rattle.regulator.proofs.FlowLaws.{larger_kept}
+use Rattle.regulator.proofs.PlaceLaws.{place-within, place_turn}
 use Rattle.regulator.proofs.boost.boost_diagonal.Statement.{statement}
 use Rattle.regulator.proofs.boost.boost_diagonal.Tie as tie
 
 abbrev invariant-loop : tie.invariant-loop
 invariant-loop n t k rates₀ rows₀ columns₀ i₀ rates rows columns i =
-    (i ≤ n) × IsPlan n t rates × LineSums rates n rows columns × (rates ≡ boostDiagonal n t k rates₀ i)
+    (i ≤ n) × IsPlan n t rates × LineSums rates n rows columns × (rates ≡ boost_diagonal n t k rates₀ i)
 
 abbrev decreases-loop : tie.decreases-loop
 decreases-loop n t k rates₀ rows₀ columns₀ i₀ rates rows columns i = n - i
 
 loop-holds : tie.Need-loop-init invariant-loop decreases-loop
-unfolding boostDiagonal
+unfolding boost_diagonal
 loop-holds c = let s = c.before.before.before in (search rules, s.requires.0, s.requires.1, refl)
 
 column-on-requires : tie.Need-column-on-requires invariant-loop decreases-loop
@@ -44,10 +44,10 @@ larger-requires c κs = search rules
 
 -- the code's larger sum
 larger-is : (c : tie.After-larger invariant-loop decreases-loop) → let a = c.before.before.before.before.before.before.before.before.args in
-    c.larger.result ≡ largerSum c.before.before.before.before.loop.rates a.n c.before.before.before.before.loop.i c.before.before.column-on.result
+    c.larger.result ≡ larger_sum c.before.before.before.before.loop.rates a.n c.before.before.before.before.loop.i c.before.before.column-on.result
 larger-is c =
     let at = c.before.before.before.before.loop in
-    c.larger.ensures ∙ larger-kept at.rates _ at.i _ at.rows at.columns at.invariant.2 c.before.before.before.loop-test.true c.before.before.column-on.ensures.1
+    c.larger.ensures ∙ larger_kept at.rates _ at.i _ at.rows at.columns at.invariant.2 c.before.before.before.loop-test.true c.before.before.column-on.ensures.1
 
 sub-spare : tie.Need-overflow-sub-spare invariant-loop decreases-loop
 sub-spare c =
@@ -112,7 +112,7 @@ loop-again : tie.Need-loop-preserved invariant-loop decreases-loop
 loop-again c =
     let at = c.before.before.before.before.before.loop in
     let a = c.before.before.before.before.before.before.before.before.before.args in
-    let more = place-turn a.n a.t a.k a.rates.now at.rates at.rows at.columns at.i _ _ _ at.invariant.1 at.invariant.2 at.invariant.3
+    let more = place_turn a.n a.t a.k a.rates.now at.rates at.rows at.columns at.i _ _ _ at.invariant.1 at.invariant.2 at.invariant.3
     c.before.before.before.before.loop-test.true c.before.before.before.column-on.ensures.0 c.before.before.flow.ensures.0 (larger-is c.before) in
     (omega arith, more.0, more.1, more.2)
 
@@ -124,7 +124,7 @@ returns c =
     let at = c.before.loop in
     let a = c.before.before.before.before.before.args in
     let e : at.i ≡ a.n = omega arith in
-    (at.invariant.3 ∙ ap (boostDiagonal a.n a.t a.k a.rates.now) e, at.invariant.2)
+    (at.invariant.3 ∙ ap (boost_diagonal a.n a.t a.k a.rates.now) e, at.invariant.2)
 
 pub boost-diagonal-spec : {M : Type 1} → statement M
 boost-diagonal-spec =

@@ -6,13 +6,13 @@ use native.Mathlib.Omega.{arith}
 use native.Mathlib.Numerals.{add-one}
 use lib.ListN.{get_or}
 use borrow.Author.Tests.{lt-leb, le-leb}
-use Rattle.plan.specs.Accept.{withinFrame}
-use Rattle.plan.proofs.BelowLaws.{all-fails}
+use Rattle.plan.specs.Accept.{within_frame}
+use Rattle.plan.proofs.BelowLaws.{all_fails}
 use Rattle.regulator.proofs.boost.sums_fit.Statement.{statement}
 use Rattle.regulator.proofs.boost.sums_fit.Tie as tie
 
 abbrev invariant-loop : tie.invariant-loop
-invariant-loop n t sums k₀ k = (k ≤ n) × (withinFrame (λ m. get_or sums m 0) k t ≡ true)
+invariant-loop n t sums k₀ k = (k ≤ n) × (within_frame (λ m. get_or sums m 0) k t ≡ true)
 
 abbrev decreases-loop : tie.decreases-loop
 decreases-loop n t sums k₀ k = n - k
@@ -27,7 +27,7 @@ array-read-if1 : tie.Need-array-read-if1 invariant-loop decreases-loop
 array-read-if1 c = search rules
 
 returns : tie.Need-returns invariant-loop decreases-loop
-returns c = sym (all-fails _ c.before.before.before.args.n _ c.before.loop-test.true (lt-leb _ _ c.if1.true))
+returns c = sym (all_fails _ c.before.before.before.args.n _ c.before.loop-test.true (lt-leb _ _ c.if1.true))
 
 add-k : tie.Need-overflow-add-k invariant-loop decreases-loop
 add-k c = search rules
@@ -42,7 +42,7 @@ returns-2 : tie.Need-returns-2 invariant-loop decreases-loop
 returns-2 c =
     let a = c.before.before.args in
     let e : c.before.loop.k ≡ a.n = omega arith in
-    sym c.before.loop.invariant.1 ∙ ap (λ (k : ℕ). withinFrame (λ m. get_or a.t1 m 0) k a.t) e
+    sym c.before.loop.invariant.1 ∙ ap (λ (k : ℕ). within_frame (λ m. get_or a.t1 m 0) k a.t) e
 
 pub sums-fit-spec : {M : Type 1} → statement M
 sums-fit-spec =

@@ -3,7 +3,7 @@ use Prim.Native.Nat.{◌*◌}
 use mathlib.Core.Bool.{true}
 use mathlib.Core.Path.{◌≡◌}
 use lib.Dec.{eqb}
-use Rattle.plan.specs.Range.{portsInRange, frameInRange}
+use Rattle.plan.specs.Range.{ports_in_range, frame_in_range}
 use Rattle.plan.proofs.TestLaws.{failed, passed}
 use Rattle.regulator.specs.Outcome.{lists_of}
 use Rattle.regulator.proofs.lists.check_lists.Statement.{statement}
@@ -11,10 +11,10 @@ use Rattle.regulator.proofs.lists.check_lists.Tie as tie
 
 -- What each test has shown once it is passed.
 
-ports-pass : (c : tie.Else1) → portsInRange c.before.before.args.n ≡ true
+ports-pass : (c : tie.Else1) → ports_in_range c.before.before.args.n ≡ true
 ports-pass c = passed c.before.ports-in-range.ensures c.if1.false
 
-frame-pass : (c : tie.Else2) → frameInRange c.before.before.before.before.args.t ≡ true
+frame-pass : (c : tie.Else2) → frame_in_range c.before.before.before.before.args.t ≡ true
 frame-pass c = passed c.before.frame-in-range.ensures c.if2.false
 
 from-pass : (c : tie.Else3) → let a = c.before.before.before.before.before.before.args in eqb a.from (a.n * a.n) ≡ true

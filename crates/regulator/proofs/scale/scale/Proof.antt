@@ -1,7 +1,7 @@
 use borrow.Author.Rules.{rules}
 use mathlib.Core.Path.{sym, ◌∙◌}
 use Rattle.regulator.specs.Scale.{scale_of}
-use Rattle.regulator.proofs.OutcomeLaws.{lists-passed, refused-outcome, done-outcome}
+use Rattle.regulator.proofs.OutcomeLaws.{lists_passed, refused_outcome, done_outcome}
 use Rattle.regulator.proofs.scale.scale.Statement.{statement}
 use Rattle.regulator.proofs.scale.scale.Tie as tie
 
@@ -18,10 +18,10 @@ returns : tie.Need-returns
 unfolding scale_of
 returns c =
     let told = c.enum-told2.given.1 in
-    rw told (refused-outcome _ _ _ _ (sym c.before.before.check-lists.ensures ∙ told))
+    rw told (refused_outcome _ _ _ _ (sym c.before.before.check-lists.ensures ∙ told))
 
 scale-places-requires : tie.Need-scale-places-requires
-scale-places-requires c κs = lists-passed _ _ _ _ (sym c.before.before.before.check-lists.ensures ∙ c.before.enum_told.given.1)
+scale-places-requires c κs = lists_passed _ _ _ _ (sym c.before.before.before.check-lists.ensures ∙ c.before.enum_told.given.1)
 
 same_length : tie.Need-same-length
 same_length c = search rules
@@ -30,7 +30,7 @@ returns-2 : tie.Need-returns-2
 unfolding scale_of
 returns-2 c =
     let told = c.before.before.before.before.enum_told.given.1 in
-    rw (told, c.before.before.scale-places.ensures) (done-outcome _ _ _ (sym c.before.before.before.before.before.before.check-lists.ensures ∙ told))
+    rw (told, c.before.before.scale-places.ensures) (done_outcome _ _ _ (sym c.before.before.before.before.before.before.check-lists.ensures ∙ told))
 
 pub scale-spec : {M : Type 1} → statement M
 scale-spec =

@@ -3,31 +3,31 @@ use Prim.Native.Nat.{◌*◌, ◌/◌, ◌%◌, ◌-◌, ◌<◌, ◌≤◌}
 use mathlib.Core.Path.{◌≡◌, refl, ap, ◌∙◌}
 use native.Mathlib.Omega.{arith}
 use lib.ListN.{length, get_or, length-set}
-use Rattle.plan.proofs.LineLaws.{square-small}
+use Rattle.plan.proofs.LineLaws.{square_small}
 use Rattle.regulator.specs.Sums.{Holds, LineSums}
-use Rattle.regulator.specs.Scale.{share_of, scaledRate, scaledOf}
-use Rattle.regulator.proofs.HoldsLaws.{holds-next, holds_same, list-holds}
+use Rattle.regulator.specs.Scale.{share_of, scaled_rate, scaled_of}
+use Rattle.regulator.proofs.HoldsLaws.{holds_next, holds_same, list_holds}
 use Rattle.plan.proofs.ListLaws.{length-list}
-use Rattle.regulator.proofs.FlowLaws.{place-below, place-in-row, larger-kept}
+use Rattle.regulator.proofs.FlowLaws.{place_below, place_in_row, larger_kept}
 use Rattle.regulator.proofs.scale.scale_places.Statement.{statement}
 use Rattle.regulator.proofs.scale.scale_places.Tie as tie
 
 abbrev invariant-loop : tie.invariant-loop
 invariant-loop n t demands rates₀ rows columns p₀ p-end rates p =
-    (p-end ≡ n * n) × (p ≤ n * n) × (length rates ≡ n * n) × LineSums demands n rows columns × Holds rates (scaledRate n t demands) p
+    (p-end ≡ n * n) × (p ≤ n * n) × (length rates ≡ n * n) × LineSums demands n rows columns × Holds rates (scaled_rate n t demands) p
 
 abbrev decreases-loop : tie.decreases-loop
 decreases-loop n t demands rates₀ rows columns p₀ p-end rates p = n * n - p
 
 -- the place in the loop has a row and a column
 inside : (c : tie.In-loop invariant-loop decreases-loop) → let a = c.before.before.before.before.before.before.before.args in (c.before.loop.p / a.n < a.n) × (c.before.loop.p % a.n < a.n)
-inside c = let s = c.before.before.before.before.before.before.before in place-below s.args.n c.before.loop.p s.requires.some-port (omega arith)
+inside c = let s = c.before.before.before.before.before.before.before in place_below s.args.n c.before.loop.p s.requires.some_port (omega arith)
 
 sums-of-requires : tie.Need-sums-of-requires invariant-loop decreases-loop
 sums-of-requires c κs = search rules
 
 mul-p-end : tie.Need-overflow-mul-p-end invariant-loop decreases-loop
-mul-p-end c = let s = c.before.before.before.before.before in omega (arith, square-small s.args.n s.requires.few-ports)
+mul-p-end c = let s = c.before.before.before.before.before in omega (arith, square_small s.args.n s.requires.few_ports)
 
 loop-holds : tie.Need-loop-init invariant-loop decreases-loop
 loop-holds c = (refl, search rules, search rules, c.before.before.sums-of.ensures, λ k b. absurd (omega arith))
@@ -42,7 +42,7 @@ mul-share : tie.Need-overflow-mul-share invariant-loop decreases-loop
 mul-share c = search rules
 
 shared-slice-read-share : tie.Need-shared-slice-read-share invariant-loop decreases-loop
-shared-slice-read-share c = omega (arith, c.before.before.before.before.before.before.before.before.requires.from-square)
+shared-slice-read-share c = omega (arith, c.before.before.before.before.before.before.before.before.requires.from_square)
 
 mul-larger : tie.Need-overflow-mul-larger invariant-loop decreases-loop
 mul-larger c = omega (arith, inside c.before)
@@ -64,7 +64,7 @@ share-requires c κs =
     let at = c.before.before.before.loop in
     let s = c.before.before.before.before.before.before.before.before.before in
     let row = at.invariant.3.row (at.p / s.args.n) (inside c.before.before).0 in
-    (omega (arith, place-in-row s.args.demands.now s.args.n at.p s.requires.some-port, c.larger.ensures), s.requires.few-slots)
+    (omega (arith, place_in_row s.args.demands.now s.args.n at.p s.requires.some_port, c.larger.ensures), s.requires.few_slots)
 
 mul-rates : tie.Need-overflow-mul-rates invariant-loop decreases-loop
 mul-rates c = search rules
@@ -84,26 +84,26 @@ loop-again c =
     let a = c.before.before.before.before.before.before.before.before.before.before.args in
     let demands = a.demands.now in
     let there = inside c.before.before.before in
-    let larger = c.before.larger.ensures ∙ larger-kept demands a.n (at.p / a.n) (at.p % a.n) _ _ at.invariant.3 there.0 there.1 in (
+    let larger = c.before.larger.ensures ∙ larger_kept demands a.n (at.p / a.n) (at.p % a.n) _ _ at.invariant.3 there.0 there.1 in (
       at.invariant.0,
       omega arith,
       simp length-set at.invariant.2,
       at.invariant.3,
-      holds-next at.rates (scaledRate a.n a.t demands) at.p _ (slice-write-rates c) at.invariant.4
+      holds_next at.rates (scaled_rate a.n a.t demands) at.p _ (slice-write-rates c) at.invariant.4
           (c.share.ensures ∙ ap (share_of (get_or demands at.p 0) a.t) larger),
     )
 
 same_length : tie.Need-same-length invariant-loop decreases-loop
-same_length c = omega (arith, c.before.before.before.before.before.before.before.requires.to-square)
+same_length c = omega (arith, c.before.before.before.before.before.before.before.requires.to_square)
 
 returns : tie.Need-returns invariant-loop decreases-loop
-unfolding scaledOf
+unfolding scaled_of
 returns c =
     let at = c.before.loop in
     let a = c.before.before.before.before.before.before.before.args in
-    let x = scaledRate a.n a.t a.demands.now in
+    let x = scaled_rate a.n a.t a.demands.now in
     let e : at.p ≡ a.n * a.n = omega arith in
-    holds_same at.rates _ x (a.n * a.n) at.invariant.2 (length-list x (a.n * a.n)) (rw e at at.invariant.4) (list-holds x (a.n * a.n))
+    holds_same at.rates _ x (a.n * a.n) at.invariant.2 (length-list x (a.n * a.n)) (rw e at at.invariant.4) (list_holds x (a.n * a.n))
 
 pub scale-places-spec : {M : Type 1} → statement M
 scale-places-spec =

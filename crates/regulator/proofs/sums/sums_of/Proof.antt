@@ -3,17 +3,17 @@ use Prim.Native.Nat.{◌-◌, ◌≤◌}
 use mathlib.Core.Path.{◌≡◌, ◌∙◌}
 use native.Mathlib.Omega.{arith}
 use lib.ListN.{length}
-use Rattle.plan.specs.Range.{mostPorts}
-use Rattle.plan.specs.Lines.{rowSum, column_sum}
-use Rattle.plan.proofs.LineLaws.{rows_in, columns-in, row_line, column-line}
+use Rattle.plan.specs.Range.{most_ports}
+use Rattle.plan.specs.Lines.{row_sum, column_sum}
+use Rattle.plan.proofs.LineLaws.{rows_in, columns_in_lem, row_line, column_line}
 use Rattle.regulator.specs.Sums.{Holds}
-use Rattle.regulator.proofs.HoldsLaws.{holds-next}
+use Rattle.regulator.proofs.HoldsLaws.{holds_next}
 use Rattle.regulator.proofs.sums.sums_of.Statement.{statement}
 use Rattle.regulator.proofs.sums.sums_of.Tie as tie
 
 abbrev invariant-loop : tie.invariant-loop
 invariant-loop list n rows₀ columns₀ k₀ rows columns k =
-    (k ≤ n) × (mostPorts ≡ length rows) × (mostPorts ≡ length columns) × Holds rows (rowSum list n) k × Holds columns (column_sum list n) k
+    (k ≤ n) × (most_ports ≡ length rows) × (most_ports ≡ length columns) × Holds rows (row_sum list n) k × Holds columns (column_sum list n) k
 
 abbrev decreases-loop : tie.decreases-loop
 decreases-loop list n rows₀ columns₀ k₀ rows columns k = n - k
@@ -31,7 +31,7 @@ array-write-rows : tie.Need-array-write-rows invariant-loop decreases-loop
 array-write-rows c = search rules
 
 line-sum-requires-2 : tie.Need-line-sum-requires-2 invariant-loop decreases-loop
-line-sum-requires-2 c κs = let pre = c.before.before.before.before.requires in (columns-in _ _ pre.0 pre.1, c.before.loop-test.true)
+line-sum-requires-2 c κs = let pre = c.before.before.before.before.requires in (columns_in_lem _ _ pre.0 pre.1, c.before.loop-test.true)
 
 mul-columns : tie.Need-overflow-mul-columns invariant-loop decreases-loop
 mul-columns c = search rules
@@ -53,16 +53,16 @@ loop-again c =
       omega arith,
       search rules,
       search rules,
-      holds-next at.rows (rowSum list a.n) at.k _ (omega arith) at.invariant.3 (c.before.line-sum.ensures ∙ row_line list a.n at.k),
-      holds-next at.columns (column_sum list a.n) at.k _ (omega arith) at.invariant.4 (c.line-sum2.ensures ∙ column-line list a.n at.k),
+      holds_next at.rows (row_sum list a.n) at.k _ (omega arith) at.invariant.3 (c.before.line-sum.ensures ∙ row_line list a.n at.k),
+      holds_next at.columns (column_sum list a.n) at.k _ (omega arith) at.invariant.4 (c.line-sum2.ensures ∙ column_line list a.n at.k),
     )
 
 returns : tie.Need-returns invariant-loop decreases-loop
 returns c =
     let e : c.before.loop.k ≡ c.before.before.before.args.n = omega arith in
     record {
-      room-for-rows = omega arith;
-      room-for-columns = omega arith;
+      room_for_rows = omega arith;
+      room_for_columns = omega arith;
       row = rw e at c.before.loop.invariant.3;
       column = rw e at c.before.loop.invariant.4;
     }

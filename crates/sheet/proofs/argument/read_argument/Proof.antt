@@ -4,19 +4,19 @@ use mathlib.Core.Path.{◌≡◌, refl, sym, ap, ◌∙◌}
 use native.Mathlib.Omega.{arith}
 use lib.ListN.{length, drop}
 use Rattle.plan.proofs.TestLaws.{failed, passed}
-use Rattle.sheet.specs.Argument.{largestNumber, numberFrom, toldAs}
-use Rattle.sheet.proofs.ArgumentLaws.{argument-none, argument-some, number-next, number-stops, number-ends}
+use Rattle.sheet.specs.Argument.{largest_number, number_from, told_as}
+use Rattle.sheet.proofs.ArgumentLaws.{argument_none, argument_some, number-next, number-stops, number-ends}
 use Rattle.sheet.proofs.argument.read_argument.Statement.{statement}
 use Rattle.sheet.proofs.argument.read_argument.Tie as tie
 
 abbrev invariant-loop : tie.invariant-loop
-invariant-loop text value₀ p₀ p-end value p = (p ≤ length text) × (p-end ≡ length text) × (value ≤ largestNumber) × (numberFrom value (drop p text) ≡ numberFrom 0 text)
+invariant-loop text value₀ p₀ p-end value p = (p ≤ length text) × (p-end ≡ length text) × (value ≤ largest_number) × (number_from value (drop p text) ≡ number_from 0 text)
 
 abbrev decreases-loop : tie.decreases-loop
 decreases-loop text value₀ p₀ p-end value p = length text - p
 
 returns : tie.Need-returns invariant-loop decreases-loop
-returns c = sym (argument-none _ c.if1.true)
+returns c = sym (argument_none _ c.if1.true)
 
 loop-holds : tie.Need-loop-init invariant-loop decreases-loop
 loop-holds c = (omega arith, refl, omega arith, refl)
@@ -32,7 +32,7 @@ returns-2 c =
     let at = c.before.before.before.before.loop in
     let text = c.before.before.before.before.before.before.before.args.text.now in
     let none = number-stops text at.p at.value (omega arith) (failed c.before.is_digit.ensures c.if2.true) in
-    sym (argument-some text c.before.before.before.before.before.if1.false ∙ ap toldAs (sym at.invariant.3 ∙ none))
+    sym (argument_some text c.before.before.before.before.before.if1.false ∙ ap told_as (sym at.invariant.3 ∙ none))
 
 mul-capped : tie.Need-overflow-mul-capped invariant-loop decreases-loop
 mul-capped c = search rules
@@ -73,7 +73,7 @@ returns-3 : tie.Need-returns-3 invariant-loop decreases-loop
 returns-3 c =
     let at = c.before.loop in
     let text = c.before.before.before.before.args.text.now in
-    sym (argument-some text c.before.before.if1.false ∙ ap toldAs (sym at.invariant.3 ∙ number-ends text at.p at.value (omega arith)))
+    sym (argument_some text c.before.before.if1.false ∙ ap told_as (sym at.invariant.3 ∙ number-ends text at.p at.value (omega arith)))
 
 pub read-argument-spec : {M : Type 1} → statement M
 read-argument-spec =

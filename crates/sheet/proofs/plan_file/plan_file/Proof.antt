@@ -6,22 +6,22 @@ use native.Mathlib.Omega.{arith}
 use lib.ListN.{length, take, replicate, length-append}
 use lib.Seq.{length-take-le, take_at}
 use Rattle.refusal.specs.Outcome.{outcome}
-use Rattle.plan.specs.Range.{mostFlows}
-use Rattle.plantext.specs.Read.{readTextOf}
-use Rattle.sheet.proofs.SheetLaws.{lentCount, lent-within, sheet-written, sheet-refused}
+use Rattle.plan.specs.Range.{most_flows}
+use Rattle.plantext.specs.Read.{read_text_of}
+use Rattle.sheet.proofs.SheetLaws.{lent_count, lent_within, sheet-written, sheet-refused}
 use Rattle.sheet.proofs.plan_file.plan_file.Statement.{statement}
 use Rattle.sheet.proofs.plan_file.plan_file.Tie as tie
 
-lent_fits : (c : tie.After-flows) → c.flows.result ≤ mostFlows
-lent_fits c = rw c.flows.ensures (lent-within c.before.before.args.n)
+lent_fits : (c : tie.After-flows) → c.flows.result ≤ most_flows
+lent_fits c = rw c.flows.ensures (lent_within c.before.before.args.n)
 
 -- what the reader answered, and the part of the array that it was lent, as it came back
 read : (c : tie.After-rates2) → let a = c.before.before.before.before.before.args in
-    outcome c.before.read-text.result c.before.read-text.new.1.1.1.0 ≡ readTextOf a.n a.t a.text.now (take (lentCount a.n) (replicate mostFlows 0))
+    outcome c.before.read-text.result c.before.read-text.new.1.1.1.0 ≡ read_text_of a.n a.t a.text.now (take (lent_count a.n) (replicate most_flows 0))
 read c = rw c.before.before.before.flows.ensures at c.before.read-text.ensures
 
 rates-size : (c : tie.After-rates2) → length c.before.read-text.new.1.1.1.0 ≡ c.before.before.before.flows.result
-rates-size c = c.before.read-text.auto.1.1.1.0 ∙ length-take-le _ (replicate mostFlows 0) (lent_fits c.before.before.before)
+rates-size c = c.before.read-text.auto.1.1.1.0 ∙ length-take-le _ (replicate most_flows 0) (lent_fits c.before.before.before)
 
 -- so that part, lent again, is what was written to it
 rates-part : (c : tie.After-rates2) (rest : List ℕ) → let rates = c.before.read-text.new.1.1.1.0 in take c.before.before.before.flows.result (rates ++ rest) ≡ rates
@@ -34,7 +34,7 @@ array-borrow-prefix-rates : tie.Need-array-borrow-prefix-rates
 array-borrow-prefix-rates c = lent_fits c
 
 slice-aggregate-read-text : tie.Need-slice-aggregate-read-text
-slice-aggregate-read-text c = sym (length-take-le _ (replicate mostFlows 0) (lent_fits c.before))
+slice-aggregate-read-text c = sym (length-take-le _ (replicate most_flows 0) (lent_fits c.before))
 
 read-text-requires : tie.Need-read-text-requires
 read-text-requires c κs = search rules

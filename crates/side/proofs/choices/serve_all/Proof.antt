@@ -2,14 +2,14 @@ use borrow.Author.Rules.{rules}
 use Prim.Native.Nat.{◌-◌, ◌<◌, ◌≤◌}
 use mathlib.Core.Path.{◌≡◌}
 use native.Mathlib.Omega.{arith}
-use Rattle.plan.specs.Desk.{deskOf}
+use Rattle.plan.specs.Desk.{desk_of}
 use Rattle.side.proofs.ChoiceLaws.{ServedBelow, served-none, served-next}
-use Rattle.side.proofs.NameLaws.{choose-names}
+use Rattle.side.proofs.NameLaws.{choose_names}
 use Rattle.side.proofs.choices.serve_all.Statement.{statement}
 use Rattle.side.proofs.choices.serve_all.Tie as tie
 
 abbrev invariant-loop : tie.invariant-loop
-invariant-loop running waiting takeover n t slot side₀ table p₀ side p = (p ≤ n) × ServedBelow (λ q. deskOf running waiting n q takeover) side₀.ports t slot p side
+invariant-loop running waiting takeover n t slot side₀ table p₀ side p = (p ≤ n) × ServedBelow (λ q. desk_of running waiting n q takeover) side₀.ports t slot p side
 
 abbrev decreases-loop : tie.decreases-loop
 decreases-loop running waiting takeover n t slot side₀ table p₀ side p = n - p
@@ -36,7 +36,7 @@ serve-with-requires : tie.Need-serve-with-requires invariant-loop decreases-loop
 serve-with-requires c κs = search rules
 
 turn-of-requires : tie.Need-turn-of-requires invariant-loop decreases-loop
-turn-of-requires c κs = rw c.before.serve-with.ensures (choose-names _ _ _ _)
+turn-of-requires c κs = rw c.before.serve-with.ensures (choose_names _ _ _ _)
 
 mul-after : tie.Need-overflow-mul-after invariant-loop decreases-loop
 mul-after c = search rules

@@ -2,19 +2,19 @@ use borrow.Author.Rules.{rules}
 use Prim.Native.Nat.{◌-◌, ◌≤◌}
 use mathlib.Core.Path.{◌≡◌, refl}
 use native.Mathlib.Omega.{arith}
-use Rattle.side.specs.Columns.{transposedRow}
+use Rattle.side.specs.Columns.{transposed_row}
 use Rattle.side.proofs.ColumnLaws.{transpose-row-step}
 use Rattle.side.proofs.columns.transpose_row.Statement.{statement}
 use Rattle.side.proofs.columns.transpose_row.Tie as tie
 
 abbrev invariant-loop : tie.invariant-loop
-invariant-loop rates n j array₀ i₀ array i = (i ≤ n) × (array ≡ transposedRow rates n j array₀ i)
+invariant-loop rates n j array₀ i₀ array i = (i ≤ n) × (array ≡ transposed_row rates n j array₀ i)
 
 abbrev decreases-loop : tie.decreases-loop
 decreases-loop rates n j array₀ i₀ array i = n - i
 
 loop-holds : tie.Need-loop-init invariant-loop decreases-loop
-unfolding transposedRow
+unfolding transposed_row
 loop-holds c = (omega arith, refl)
 
 flow-place-requires : tie.Need-flow-place-requires invariant-loop decreases-loop

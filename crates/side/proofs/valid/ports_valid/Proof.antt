@@ -6,18 +6,18 @@ use native.Mathlib.Omega.{arith}
 use native.Mathlib.Numerals.{add-one}
 use lib.ListN.{get_or}
 use Rattle.plan.specs.Below.{all_below}
-use Rattle.plan.proofs.BelowLaws.{all-fails}
+use Rattle.plan.proofs.BelowLaws.{all_fails}
 use Rattle.plan.proofs.TestLaws.{failed, passed}
-use Rattle.side.specs.Choices.{noMultiplexer}
-use Rattle.multiplexer.specs.Valid.{portValid}
-use Rattle.side.specs.Valid.{portsValid}
-use Rattle.side.proofs.LoopLaws.{all-passed}
+use Rattle.side.specs.Choices.{no_multiplexer}
+use Rattle.multiplexer.specs.Valid.{port_valid}
+use Rattle.side.specs.Valid.{ports_valid}
+use Rattle.side.proofs.LoopLaws.{all_passed}
 use Rattle.side.proofs.valid.ports_valid.Statement.{statement}
 use Rattle.side.proofs.valid.ports_valid.Tie as tie
 
 abbrev invariant-loop : tie.invariant-loop
 invariant-loop rates n across along slot ports p₀ p =
-    (p ≤ n) × (all_below (λ q. portValid rates (get_or ports q noMultiplexer).served n (q * across) along slot) p ≡ true)
+    (p ≤ n) × (all_below (λ q. port_valid rates (get_or ports q no_multiplexer).served n (q * across) along slot) p ≡ true)
 
 abbrev decreases-loop : tie.decreases-loop
 decreases-loop rates n across along slot ports p₀ p = n - p
@@ -35,8 +35,8 @@ counts-valid-requires : tie.Need-counts-valid-requires invariant-loop decreases-
 counts-valid-requires c κs = search rules
 
 returns : tie.Need-returns invariant-loop decreases-loop
-unfolding portsValid
-returns c = sym (all-fails _ _ _ c.before.before.before.loop-test.true (failed c.before.counts-valid.ensures c.if1.true))
+unfolding ports_valid
+returns c = sym (all_fails _ _ _ c.before.before.before.loop-test.true (failed c.before.counts-valid.ensures c.if1.true))
 
 add-p : tie.Need-overflow-add-p invariant-loop decreases-loop
 add-p c = search rules
@@ -48,8 +48,8 @@ loop-again : tie.Need-loop-preserved invariant-loop decreases-loop
 loop-again c = (omega arith, rw (add-one, c.before.before.before.before.loop.invariant.1) (passed c.before.counts-valid.ensures c.if1.false))
 
 returns-2 : tie.Need-returns-2 invariant-loop decreases-loop
-unfolding portsValid
-returns-2 c = all-passed _ _ _ c.before.loop.invariant.0 c.loop-test.false c.before.loop.invariant.1
+unfolding ports_valid
+returns-2 c = all_passed _ _ _ c.before.loop.invariant.0 c.loop-test.false c.before.loop.invariant.1
 
 pub ports-valid-spec : {M : Type 1} → statement M
 ports-valid-spec =

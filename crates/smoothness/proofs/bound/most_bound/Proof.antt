@@ -3,7 +3,7 @@ use Prim.Native.Nat.{ℕ, ◌+◌, ◌-◌, ◌*◌, ◌≤◌}
 use mathlib.Core.Path.{refl, ap}
 use native.Mathlib.Nat.{div-le_self}
 use native.Mathlib.Omega.{arith}
-use Rattle.multiplexer.proofs.RoundLaws.{quotient-rounded, product_small}
+use Rattle.multiplexer.proofs.RoundLaws.{quotient_rounded, product_small}
 use Rattle.smoothness.proofs.bound.most_bound.Statement.{statement}
 use Rattle.smoothness.proofs.bound.most_bound.Tie as tie
 
@@ -31,7 +31,7 @@ add-result-2 c =
     omega (arith, share-small c, div-le_self ((a.l - 1) * a.rate + (a.frame - 1)) a.frame)
 
 returns : tie.Need-returns
-returns c = ap (λ (q : ℕ). q + 1) (quotient-rounded _ _ _ refl)
+returns c = ap (λ (q : ℕ). q + 1) (quotient_rounded _ _ _ refl)
 
 pub most-bound-spec : {M : Type 1} → statement M
 most-bound-spec =

@@ -2,7 +2,7 @@ use borrow.Author.Rules.{rules}
 use Prim.Native.Nat.{◌+◌, ◌≤◌}
 use native.Mathlib.Omega.{arith}
 use lib.ListN.{length, length-append}
-use Rattle.console.specs.Text.{decimalOf}
+use Rattle.console.specs.Text.{decimal_of}
 use Rattle.smoothness.specs.Printout.{field_of}
 use Rattle.console.proofs.TextLaws.{written_on}
 use Rattle.smoothness.proofs.line.flow_fields.Statement.{statement}
@@ -11,7 +11,7 @@ use Rattle.smoothness.proofs.line.flow_fields.Tie as tie
 -- one field after the other
 room : (c : tie.Start) →
     let a = c.args in
-    a.at + (length (decimalOf a.j) + length (field_of a.i) + length (field_of a.rate) + length (field_of a.l)) ≤ length a.out.now
+    a.at + (length (decimal_of a.j) + length (field_of a.i) + length (field_of a.rate) + length (field_of a.l)) ≤ length a.out.now
 room c = omega (arith, simp length-append at c.requires.enough)
 
 number-requires : tie.Need-number-requires

@@ -2,20 +2,20 @@ use borrow.Author.Rules.{rules}
 use Prim.Native.Nat.{ℕ}
 use mathlib.Core.List.{◌++◌}
 use mathlib.Core.Path.{◌≡◌, refl, sym}
-use Rattle.meter.specs.Bound.{leastBound, mostBound}
+use Rattle.meter.specs.Bound.{least_bound, most_bound}
 use Rattle.console.specs.Text.{HasRoom}
-use Rattle.console.specs.Refused.{lineEnd}
+use Rattle.console.specs.Refused.{line_end}
 use Rattle.console.proofs.TextLaws.{room_as, room-first, room_next, written_as, written_on}
-use Rattle.smoothness.proofs.LineLaws.{flowText, pairText, line-parts}
+use Rattle.smoothness.proofs.LineLaws.{flow_text, pair_text, line_parts}
 use Rattle.smoothness.proofs.line.line.Statement.{statement}
 use Rattle.smoothness.proofs.line.line.Tie as tie
 
 -- room for the line's parts
 room : (c : tie.Start) (least most : ℕ) →
     let a = c.args in
-    least ≡ leastBound a.l a.rate a.frame → most ≡ mostBound a.l a.rate a.frame
-    → HasRoom a.out.now a.at (flowText a.j a.i a.rate a.l ++ pairText a.decreases.least.services least ++ pairText a.decreases.most.services most ++ lineEnd)
-room c least most el em = let a = c.args in room_as c.requires.2 (line-parts a.j a.i a.rate a.l a.frame least most a.decreases el em)
+    least ≡ least_bound a.l a.rate a.frame → most ≡ most_bound a.l a.rate a.frame
+    → HasRoom a.out.now a.at (flow_text a.j a.i a.rate a.l ++ pair_text a.decreases.least.services least ++ pair_text a.decreases.most.services most ++ line_end)
+room c least most el em = let a = c.args in room_as c.requires.2 (line_parts a.j a.i a.rate a.l a.frame least most a.decreases el em)
 
 flow-fields-requires : tie.Need-flow-fields-requires
 flow-fields-requires c κs = room-first _ _ (room-first _ _ (room-first _ _ (room c.before.before _ _ refl refl)))
@@ -61,7 +61,7 @@ returns c =
     let most = c.before.before.before.before.before.before.before.beside2.ensures in
     let end = c.before.before.put.ensures in
     written_as (written_on (written_on (written_on flow least) most) end)
-    (sym (line-parts _ _ _ _ _ _ _ _ c.before.before.before.before.before.before.before.before.before.before.before.before.before.least-bound.ensures c.before.before.before.before.before.before.before.before.most-bound.ensures))
+    (sym (line_parts _ _ _ _ _ _ _ _ c.before.before.before.before.before.before.before.before.before.before.before.before.before.least-bound.ensures c.before.before.before.before.before.before.before.before.most-bound.ensures))
 
 pub line-spec : {M : Type 1} → statement M
 line-spec =

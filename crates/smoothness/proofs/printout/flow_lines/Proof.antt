@@ -6,18 +6,18 @@ use mathlib.Core.Bool.{true}
 use lib.ListN.{length}
 use borrow.Author.Tests.{not-true, not-false}
 use Rattle.console.specs.Text.{Written}
-use Rattle.console.specs.TextBelow.{textBelow}
+use Rattle.console.specs.TextBelow.{text_below}
 use Rattle.console.proofs.TextLaws.{room_as, written_as}
 use Rattle.console.proofs.TextBelowLaws.{below_none, below-room, below-skip, below_step}
-use Rattle.smoothness.specs.Printout.{line_of, stretches, stretchesOf, counts}
+use Rattle.smoothness.specs.Printout.{line_of, stretches, stretches_of, counts}
 use Rattle.smoothness.proofs.PrintoutLaws.{stretchLine, by-stretches, no-stretch, measured-stretch}
-use Rattle.smoothness.proofs.StretchLaws.{length_at, length-within, counts_some}
+use Rattle.smoothness.proofs.StretchLaws.{length_at, length_within, counts_some}
 use Rattle.smoothness.proofs.printout.flow_lines.Statement.{statement}
 use Rattle.smoothness.proofs.printout.flow_lines.Tie as tie
 
 abbrev invariant-loop : tie.invariant-loop
 invariant-loop out₀ from recorded j i rate frame lengths at₀ k₀ out at k =
-    (k ≤ stretches) × (length out ≡ length out₀) × Written out₀ from (textBelow (stretchLine recorded j i rate frame) k) out at
+    (k ≤ stretches) × (length out ≡ length out₀) × Written out₀ from (text_below (stretchLine recorded j i rate frame) k) out at
 
 abbrev decreases-loop : tie.decreases-loop
 decreases-loop out₀ from recorded j i rate frame lengths at₀ k₀ out at k = stretches - k
@@ -26,7 +26,7 @@ decreases-loop out₀ from recorded j i rate frame lengths at₀ k₀ out at k =
 counted : (c : tie.After-cover invariant-loop decreases-loop) →
     let a = c.before.before.before.before.before.before.before.args in
     let k = c.before.before.before.before.loop.k in
-    (counts (stretchesOf a.frame) k ≡ true)
+    (counts (stretches_of a.frame) k ≡ true)
     × (stretchLine a.recorded.now a.j a.i a.rate a.frame k ≡ line_of a.j a.i a.rate (length_at a.frame k) a.frame c.cover.result)
 counted c =
     let yes = sym c.before.before.counts.ensures ∙ not-false _ c.before.if1.false in
@@ -61,7 +61,7 @@ cast-cover c = search rules
 cast-cover-2 : tie.Need-overflow-cast-cover-2 invariant-loop decreases-loop
 cast-cover-2 c =
     let a = c.before.before.before.before.before.before.args in
-    omega (arith, length-within a.frame c.before.before.before.loop.k (omega arith))
+    omega (arith, length_within a.frame c.before.before.before.loop.k (omega arith))
 
 cover-requires : tie.Need-cover-requires invariant-loop decreases-loop
 cover-requires c κs = search rules
@@ -93,7 +93,7 @@ returns c =
     let a = c.before.before.before.before.args in
     let lines = stretchLine a.recorded.now a.j a.i a.rate a.frame in
     let all : l.k ≡ stretches = omega (arith, l.invariant.0, c.loop-test.false) in
-    written_as l.invariant.2 (ap (textBelow lines) all ∙ sym (by-stretches _ _ _ _ _))
+    written_as l.invariant.2 (ap (text_below lines) all ∙ sym (by-stretches _ _ _ _ _))
 
 pub flow-lines-spec : {M : Type 1} → statement M
 flow-lines-spec =

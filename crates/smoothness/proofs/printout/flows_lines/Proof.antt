@@ -4,17 +4,17 @@ use mathlib.Core.Path.{◌≡◌, refl, ap}
 use native.Mathlib.Omega.{arith}
 use lib.ListN.{length}
 use Rattle.console.specs.Text.{Written}
-use Rattle.console.specs.TextBelow.{textBelow}
+use Rattle.console.specs.TextBelow.{text_below}
 use Rattle.console.proofs.TextLaws.{room_as, written_as}
 use Rattle.console.proofs.TextBelowLaws.{below_none, below-room, below-skip, below_step}
-use Rattle.smoothness.specs.Head.{boardLinesOf}
+use Rattle.smoothness.specs.Head.{board_lines_of}
 use Rattle.smoothness.proofs.PrintoutLaws.{no-rate, some-rate}
 use Rattle.smoothness.proofs.printout.flows_lines.Statement.{statement}
 use Rattle.smoothness.proofs.printout.flows_lines.Tie as tie
 
 abbrev invariant-loop : tie.invariant-loop
 invariant-loop out₀ from recorded rates j frame at₀ i₀ i-end out at i =
-    (i ≤ length rates) × (length out ≡ length out₀) × Written out₀ from (textBelow (boardLinesOf recorded rates j frame) i) out at
+    (i ≤ length rates) × (length out ≡ length out₀) × Written out₀ from (text_below (board_lines_of recorded rates j frame) i) out at
 
 abbrev decreases-loop : tie.decreases-loop
 decreases-loop out₀ from recorded rates j frame at₀ i₀ i-end out at i = length rates - i
@@ -68,7 +68,7 @@ returns c =
     let l = c.before.loop in
     let a = c.before.before.before.before.before.args in
     let all : l.i ≡ length a.rates.now = omega (arith, l.invariant.0, c.loop-test.false) in
-    written_as l.invariant.2 (ap (textBelow (boardLinesOf a.recorded.now a.rates.now a.j a.frame)) all)
+    written_as l.invariant.2 (ap (text_below (board_lines_of a.recorded.now a.rates.now a.j a.frame)) all)
 
 pub flows-lines-spec : {M : Type 1} → statement M
 flows-lines-spec =

@@ -4,7 +4,7 @@ use mathlib.Core.List.{List}
 use mathlib.Core.Path.{ap, sym}
 use lib.Seq.{length-take-le}
 use Rattle.console.proofs.TextLaws.{room_as, written_as}
-use Rattle.smoothness.specs.Head.{flowsLinesOf}
+use Rattle.smoothness.specs.Head.{flows_lines_of}
 use Rattle.smoothness.proofs.printout.head_lines.Statement.{statement}
 use Rattle.smoothness.proofs.printout.head_lines.Tie as tie
 
@@ -27,7 +27,7 @@ flows-lines-requires : tie.Need-flows-lines-requires
 flows-lines-requires c κs =
     let s = c.before.before.before.before.before.before.before in
     let a = s.args in
-    let same = ap (λ (recorded : List ℕ). flowsLinesOf recorded a.rates.now a.j a.frame) (sym c.before.before.before.record-frames.ensures) in
+    let same = ap (λ (recorded : List ℕ). flows_lines_of recorded a.rates.now a.j a.frame) (sym c.before.before.before.record-frames.ensures) in
     (s.requires.0, s.requires.2, room_as s.requires.3 same)
 
 same_length : tie.Need-same-length
@@ -36,7 +36,7 @@ same_length c = search rules
 returns : tie.Need-returns
 returns c =
     let a = c.before.before.before.before.before.before.before.before.before.before.args in
-    let same = ap (λ (recorded : List ℕ). flowsLinesOf recorded a.rates.now a.j a.frame) c.before.before.before.before.before.before.record-frames.ensures in
+    let same = ap (λ (recorded : List ℕ). flows_lines_of recorded a.rates.now a.j a.frame) c.before.before.before.before.before.before.record-frames.ensures in
     written_as c.before.before.flows-lines.ensures same
 
 pub head-lines-spec : {M : Type 1} → statement M

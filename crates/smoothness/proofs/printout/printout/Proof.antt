@@ -1,8 +1,8 @@
 use borrow.Author.Rules.{rules}
 use mathlib.Core.Path.{sym}
 use Rattle.console.proofs.TextLaws.{room_as, room_next, written_as, written_on}
-use Rattle.smoothness.proofs.PrintoutLaws.{accepted-printout, refused-printout, plan-read}
-use Rattle.smoothness.proofs.RoomLaws.{printout-room}
+use Rattle.smoothness.proofs.PrintoutLaws.{accepted-printout, refused-printout, plan_read}
+use Rattle.smoothness.proofs.RoomLaws.{printout_room_lem}
 use Rattle.smoothness.proofs.printout.printout.Statement.{statement}
 use Rattle.smoothness.proofs.printout.printout.Tie as tie
 
@@ -17,7 +17,7 @@ enum-told-2 c = search rules
 
 refusal-line-requires : tie.Need-refusal-line-requires
 refusal-line-requires c κs =
-    room_as (printout-room _ _ c.refusal-line-arg.given.0.1) (refused-printout _ _ c.before.before.before.read.ensures c.before.enum-told2.given.1)
+    room_as (printout_room_lem _ _ c.refusal-line-arg.given.0.1) (refused-printout _ _ c.before.before.before.read.ensures c.before.enum-told2.given.1)
 
 returns : tie.Need-returns
 returns c =
@@ -34,9 +34,9 @@ heads-lines-requires c κs =
     let read = c.before.before.before.before.before.before.before.read.ensures in
     let e = c.before.before.before.before.before.enum_told.given.1 in
     let put = c.before.before.put in
-    let plan = (plan-read _ _ read e).is-plan in
-    let room = printout-room _ _ c.before.before.before.before.put-arg.given.0.1 in
-    (plan.few-ports, plan.some-slot, plan.few-slots, room_next _ _ (room_as room (accepted-printout _ _ read e)) put.ensures put.auto.0)
+    let plan = (plan_read _ _ read e).is_plan in
+    let room = printout_room_lem _ _ c.before.before.before.before.put-arg.given.0.1 in
+    (plan.few_ports, plan.some_slot, plan.few_slots, room_next _ _ (room_as room (accepted-printout _ _ read e)) put.ensures put.auto.0)
 
 returns-2 : tie.Need-returns-2
 returns-2 c =

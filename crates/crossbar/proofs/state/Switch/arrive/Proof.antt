@@ -3,16 +3,16 @@ use mathlib.Core.Path.{◌≡◌, sym, ◌∙◌}
 use native.Mathlib.Omega.{arith}
 use lib.ListN.{length}
 use Rattle.refusal.specs.declared.Verdict.TheVariants.{Accepted}
-use Rattle.crossbar.specs.Arrive.{arriveVerdict}
-use Rattle.crossbar.proofs.ArriveLaws.{can-arrive, arrive-accepted, arrive-refused, Placed, placed}
+use Rattle.crossbar.specs.Arrive.{arrive_verdict}
+use Rattle.crossbar.proofs.ArriveLaws.{can_arrive, arrive-accepted, arrive-refused, Placed, placed}
 use Rattle.crossbar.proofs.state.Switch.arrive.Statement.{statement}
 use Rattle.crossbar.proofs.state.Switch.arrive.Tie as tie
 
-pass : (c : tie.After-enum-told) → let a = c.before.before.before.before.args in arriveVerdict a.self (length a.store.now) a.i a.j ≡ Accepted
+pass : (c : tie.After-enum-told) → let a = c.before.before.before.before.args in arrive_verdict a.self (length a.store.now) a.i a.j ≡ Accepted
 pass c = sym c.before.before.arrive-verdict.ensures ∙ c.enum_told.given.1
 
 known : (c : tie.After-enum-told) → let a = c.before.before.before.before.args in Placed a.self (length a.store.now) a.i a.j
-known c = placed _ _ _ _ (can-arrive _ _ _ _ (pass c))
+known c = placed _ _ _ _ (can_arrive _ _ _ _ (pass c))
 
 arrive-verdict-requires : tie.Need-arrive-verdict-requires
 arrive-verdict-requires c κs = search rules
@@ -48,7 +48,7 @@ add-ring-place : tie.Need-overflow-add-ring-place
 add-ring-place c = search rules
 
 ring-place-requires : tie.Need-ring-place-requires
-ring-place-requires c κs = (known c.before.before.before.before.before).once-around
+ring-place-requires c κs = (known c.before.before.before.before.before).once_around
 
 slice-write-store : tie.Need-slice-write-store
 slice-write-store c = (known c.before.before.before.before.before.before).within _ c.ring-place.ensures.1

@@ -5,45 +5,45 @@ use mathlib.Core.Path.{◌≡◌, sym}
 use native.Mathlib.Omega.{arith}
 use lib.ListN.{length}
 use borrow.Author.Tests.{lt-ltb, le-ltb}
-use Rattle.plan.specs.Range.{mostPorts}
+use Rattle.plan.specs.Range.{most_ports}
 use Rattle.plan.proofs.TestLaws.{failed, passed}
-use Rattle.plan.proofs.LineLaws.{square-small}
-use Rattle.planpair.specs.Rates.{planRates}
-use Rattle.planpair.specs.Valid.{plansValid}
+use Rattle.plan.proofs.LineLaws.{square_small}
+use Rattle.planpair.specs.Rates.{plan_rates}
+use Rattle.planpair.specs.Valid.{plans_valid}
 use Rattle.planpair.proofs.ValidLaws.{running-valid}
 use Rattle.planpair.proofs.OwnedLaws.{rates-cover, rates-square}
-use Rattle.fabric.specs.Valid.{flowsValid}
-use Rattle.crossbar.specs.State.{hasWaiting, depthInRange}
+use Rattle.fabric.specs.Valid.{flows_valid}
+use Rattle.crossbar.specs.State.{has_waiting, depth_in_range}
 use Rattle.crossbar.specs.Valid.{valid_of}
 use Rattle.crossbar.proofs.state.Switch.is_valid.Statement.{statement}
 use Rattle.crossbar.proofs.state.Switch.is_valid.Tie as tie
 
 -- What each test has shown once it is passed.
 
-plans-pass : (c : tie.Else1) → let s = c.before.before.before.before.before.before.before.args.self in plansValid s.running s.waiting (hasWaiting s) ≡ true
+plans-pass : (c : tie.Else1) → let s = c.before.before.before.before.before.before.before.args.self in plans_valid s.running s.waiting (has_waiting s) ≡ true
 plans-pass c = passed c.before.plans-valid.ensures c.if1.false
 
-depth-pass : (c : tie.Else2) → depthInRange c.before.before.before.before.before.before.before.before.before.args.self.depth ≡ true
+depth-pass : (c : tie.Else2) → depth_in_range c.before.before.before.before.before.before.before.before.before.args.self.depth ≡ true
 depth-pass c = passed c.before.depth-in-range.ensures c.if2.false
 
-flows-pass : (c : tie.Else4) → let s = c.before.before.before.before.before.before.before.before.before.before.before.before.before.before.before.before.args.self in flowsValid s.fabric.queues s.fabric.crosspoints s.running.ports s.depth ≡ true
+flows-pass : (c : tie.Else4) → let s = c.before.before.before.before.before.before.before.before.before.before.before.before.before.before.before.before.args.self in flows_valid s.fabric.queues s.fabric.crosspoints s.running.ports s.depth ≡ true
 flows-pass c = passed c.before.flows-valid.ensures c.if4.false
 
-few-ports : (c : tie.Else1) → c.before.before.before.before.before.before.before.args.self.running.ports ≤ mostPorts
-few-ports c =
+few_ports : (c : tie.Else1) → c.before.before.before.before.before.before.before.args.self.running.ports ≤ most_ports
+few_ports c =
     let s = c.before.before.before.before.before.before.before.args.self in
-    (running-valid s.running s.waiting (hasWaiting s) (plans-pass c)).few-ports
+    (running-valid s.running s.waiting (has_waiting s) (plans-pass c)).few_ports
 
 -- the array covers the rates of the running plan
 cover : (c : tie.Else1) → let p = c.before.before.before.before.before.before.before.args.self.running in p.ports * p.ports ≤ length p.rates
 cover c =
     let c0 = c.before.before.before.before.before.before.before in
-    rates-cover c0.args.self.running _ c0.well-formed.0.1.1.0 (few-ports c)
+    rates-cover c0.args.self.running _ c0.well-formed.0.1.1.0 (few_ports c)
 
-square : (c : tie.Else1) → let p = c.before.before.before.before.before.before.before.args.self.running in length (planRates p) ≡ p.ports * p.ports
+square : (c : tie.Else1) → let p = c.before.before.before.before.before.before.before.args.self.running in length (plan_rates p) ≡ p.ports * p.ports
 square c =
     let c0 = c.before.before.before.before.before.before.before in
-    rates-square c0.args.self.running _ c0.well-formed.0.1.1.0 (few-ports c)
+    rates-square c0.args.self.running _ c0.well-formed.0.1.1.0 (few_ports c)
 
 plans-valid-requires : tie.Need-plans-valid-requires
 plans-valid-requires c κs = search rules
@@ -66,7 +66,7 @@ returns-3 c =
     simp (plans-pass c2.before.before, depth-pass c2, le-ltb _ _ c.if3.true)
 
 flows-valid-requires : tie.Need-flows-valid-requires
-flows-valid-requires c κs = few-ports c.before.before.before.before.before.before.before
+flows-valid-requires c κs = few_ports c.before.before.before.before.before.before.before
 
 returns-4 : tie.Need-returns-4
 unfolding valid_of
@@ -84,7 +84,7 @@ mul-rates : tie.Need-overflow-mul-rates
 mul-rates c =
     omega (
       arith,
-      square-small _ (few-ports c.before.before.before.before.before.before.before.before.before.before.before),
+      square_small _ (few_ports c.before.before.before.before.before.before.before.before.before.before.before),
     )
 
 array-share-prefix-rates : tie.Need-array-share-prefix-rates
@@ -96,7 +96,7 @@ slice-aggregate-counts-valid c = sym (square c.before.before.before.before.befor
 counts-valid-requires : tie.Need-counts-valid-requires
 counts-valid-requires c κs =
     let c1 = c.before.before.before.before.before.before.before.before.before.before.before.before in
-    (few-ports c1, square c1)
+    (few_ports c1, square c1)
 
 returns-5 : tie.Need-returns-5
 unfolding valid_of

@@ -4,18 +4,18 @@ use mathlib.Core.Path.{◌≡◌, sym, ◌∙◌}
 use native.Mathlib.Omega.{arith}
 use lib.ListN.{length}
 use Rattle.refusal.specs.declared.Verdict.TheVariants.{Accepted}
-use Rattle.plan.specs.Range.{mostFlows}
-use Rattle.plan.proofs.LineLaws.{square-small}
-use Rattle.crossbar.specs.Load.{loadVerdict}
-use Rattle.crossbar.proofs.LoadLaws.{can-load, load-accepted, load-refused}
+use Rattle.plan.specs.Range.{most_flows}
+use Rattle.plan.proofs.LineLaws.{square_small}
+use Rattle.crossbar.specs.Load.{load_verdict}
+use Rattle.crossbar.proofs.LoadLaws.{can_load, load-accepted, load-refused}
 use Rattle.crossbar.proofs.state.Switch.load.Statement.{statement}
 use Rattle.crossbar.proofs.state.Switch.load.Tie as tie
 
-pass : (c : tie.After-enum-told) → let a = c.before.before.before.before.args in loadVerdict a.self a.n a.t a.rates.now ≡ Accepted
+pass : (c : tie.After-enum-told) → let a = c.before.before.before.before.args in load_verdict a.self a.n a.t a.rates.now ≡ Accepted
 pass c = sym c.before.before.load-verdict.ensures ∙ c.enum_told.given.1
 
-room : (c : tie.After-enum-told) → let a = c.before.before.before.before.args in (a.n * a.n ≤ mostFlows) × (a.n * a.n ≤ length a.rates.now)
-room c = let p = (can-load _ _ _ _ (pass c)).plan in (square-small _ p.few-ports, omega (arith, p.square))
+room : (c : tie.After-enum-told) → let a = c.before.before.before.before.args in (a.n * a.n ≤ most_flows) × (a.n * a.n ≤ length a.rates.now)
+room c = let p = (can_load _ _ _ _ (pass c)).plan in (square_small _ p.few_ports, omega (arith, p.square))
 
 load-verdict-requires : tie.Need-load-verdict-requires
 load-verdict-requires c κs = search rules

@@ -6,47 +6,47 @@ use native.Mathlib.Omega.{arith}
 use borrow.Author.Tests.{eqb-false}
 use lib.ListN.{length, take}
 use lib.Seq.{length-take-le}
-use Rattle.plan.specs.Range.{mostPorts, mostFlows}
-use Rattle.plan.specs.Desk.{deskOf}
-use Rattle.plan.proofs.LineLaws.{square-small}
-use Rattle.plan.proofs.BelowLaws.{and-true}
+use Rattle.plan.specs.Range.{most_ports, most_flows}
+use Rattle.plan.specs.Desk.{desk_of}
+use Rattle.plan.proofs.LineLaws.{square_small}
+use Rattle.plan.proofs.BelowLaws.{and_true}
 use Rattle.plan.proofs.TestLaws.{failed}
 use Rattle.side.specs.Choices.{ServedAs}
-use Rattle.side.proofs.ColumnLaws.{columns-full}
+use Rattle.side.proofs.ColumnLaws.{columns_full}
 use Rattle.crossbar.specs.Valid.{IsValid}
-use Rattle.crossbar.specs.Takeover.{takesOver}
-use Rattle.crossbar.proofs.TakeoverLaws.{takes-waiting}
-use Rattle.crossbar.proofs.OwnedLaws.{Sized, owned-sized}
+use Rattle.crossbar.specs.Takeover.{takes_over}
+use Rattle.crossbar.proofs.TakeoverLaws.{takes_waiting}
+use Rattle.crossbar.proofs.OwnedLaws.{Sized, owned_sized}
 use Rattle.crossbar.proofs.StepLaws.{running-part, waiting-part, few-choose, boards-can, few-act, acts, moves-can, heads-can, step-takes, step_keeps}
 use Rattle.crossbar.proofs.state.Switch.slot.Statement.{statement}
 use Rattle.crossbar.proofs.state.Switch.slot.Tie as tie
 
 -- the state's arrays have their lengths
 size : (s : tie.Start) → Sized s.args.self
-size s = owned-sized s.args.self _ s.well-formed.0
+size s = owned_sized s.args.self _ s.well-formed.0
 
-few : (s : tie.Start) → s.args.n ≤ mostPorts
+few : (s : tie.Start) → s.args.n ≤ most_ports
 few s = few-choose _ _ _ _ _ s.requires
 
 -- the boards' slot, by the plan that rules it
 by-desk : (c : tie.After-points) → let a = c.before.before.before.before.before.before.before.before.before.before.before.before.args in
-    ServedAs (λ p. deskOf (take (a.n * a.n) a.self.running.rates) (take (a.n * a.n) a.self.waiting.rates) a.n p (takesOver a.self)) a.self.fabric.boards a.self.running.frame a.self.slot a.n c.before.before.before.serve-all.result
+    ServedAs (λ p. desk_of (take (a.n * a.n) a.self.running.rates) (take (a.n * a.n) a.self.waiting.rates) a.n p (takes_over a.self)) a.self.fabric.boards a.self.running.frame a.self.slot a.n c.before.before.before.serve-all.result
 by-desk c = rw c.before.before.before.before.before.before.takes-over.ensures at c.before.before.before.serve-all.ensures
 
 mul-rates : tie.Need-overflow-mul-rates
-mul-rates c = omega (arith, square-small _ (few c.before.before.before))
+mul-rates c = omega (arith, square_small _ (few c.before.before.before))
 
 array-share-prefix-rates : tie.Need-array-share-prefix-rates
-array-share-prefix-rates c = omega (arith, square-small _ (few c.before.before.before), (size c.before.before.before).running)
+array-share-prefix-rates c = omega (arith, square_small _ (few c.before.before.before), (size c.before.before.before).running)
 
 slice-aggregate-running : tie.Need-slice-aggregate-running
 slice-aggregate-running c = let s = c.before.before.before.before in sym (running-part _ (size s) _ (few s))
 
 mul-waiting-rates : tie.Need-overflow-mul-waiting-rates
-mul-waiting-rates c = omega (arith, square-small _ (few c.before.before.before.before))
+mul-waiting-rates c = omega (arith, square_small _ (few c.before.before.before.before))
 
 array-share-prefix-waiting-rates : tie.Need-array-share-prefix-waiting-rates
-array-share-prefix-waiting-rates c = omega (arith, square-small _ (few c.before.before.before.before), (size c.before.before.before.before).waiting)
+array-share-prefix-waiting-rates c = omega (arith, square_small _ (few c.before.before.before.before), (size c.before.before.before.before).waiting)
 
 slice-aggregate-waiting : tie.Need-slice-aggregate-waiting
 slice-aggregate-waiting c = let s = c.before.before.before.before.before in sym (waiting-part _ (size s) _ (few s))
@@ -69,19 +69,19 @@ columns-of-requires : tie.Need-columns-of-requires
 columns-of-requires c κs = let s = c.before.before.before.before.before.before.before.before.before.before.before.before.before.before.before in (few s, running-part _ (size s) _ (few s), waiting-part _ (size s) _ (few s))
 
 -- all or none of the ports that choose act
-few-acting : (c : tie.After-columns) → c.before.acting.result ≤ mostPorts
+few-acting : (c : tie.After-columns) → c.before.acting.result ≤ most_ports
 few-acting c =
     let p = c.before.before.before in
     let s = p.before.before.before.before.before.before.before.before.before.before.before.before in
     few-act s.args.self s.args.store.now (size s) s.args.n s.args.valid s.args.fits s.requires _ (by-desk p) _ c.before.before.room-for-all.ensures _ c.before.acting.ensures
 
 mul-columns : tie.Need-overflow-mul-columns
-mul-columns c = omega (arith, square-small _ (few-acting c.before))
+mul-columns c = omega (arith, square_small _ (few-acting c.before))
 
 array-share-prefix-columns : tie.Need-array-share-prefix-columns
 array-share-prefix-columns c =
-    let full : length c.columns_of.new.1.1.1.1.0 ≡ mostFlows = columns-full _ _ _ _ c.columns_of.ensures in
-    omega (arith, square-small _ (few-acting c.before))
+    let full : length c.columns_of.new.1.1.1.1.0 ≡ most_flows = columns_full _ _ _ _ c.columns_of.ensures in
+    omega (arith, square_small _ (few-acting c.before))
 
 slice-aggregate-rows : tie.Need-slice-aggregate-rows
 slice-aggregate-rows c = sym (length-take-le _ _ (array-share-prefix-columns c.before))
@@ -114,21 +114,21 @@ acted c l =
     (acts a.self a.store.now (size s) a.n a.valid a.fits s.requires _ (by-desk p) _ c.before.before.room-for-all.ensures _ c.before.acting.ensures l).rules
 
 next-slot-requires : tie.Need-next-slot-requires
-next-slot-requires c κs = λ l. let v = acted c.before.before.before.before.before.before.before.before.before l in omega (arith, v.in_frame, v.running.few-slots)
+next-slot-requires c κs = λ l. let v = acted c.before.before.before.before.before.before.before.before.before l in omega (arith, v.in_frame, v.running.few_slots)
 
 -- a plan takes over, and ports act
-taking : (c : tie.After-old) → let k = c.before.before.before.before.before.before.before.before.before.before.before.before in (takesOver k.before.before.before.before.before.before.before.before.before.before.before.before.before.before.before.args.self ≡ true) × (1 ≤ k.before.acting.result)
+taking : (c : tie.After-old) → let k = c.before.before.before.before.before.before.before.before.before.before.before.before in (takes_over k.before.before.before.before.before.before.before.before.before.before.before.before.before.before.before.args.self ≡ true) × (1 ≤ k.before.acting.result)
 taking c =
     let k = c.before.before.before.before.before.before.before.before.before.before.before.before in
-    let both = and-true _ _ c.before.if1.true in
+    let both = and_true _ _ c.before.if1.true in
     let ne : (c.before.before.before.before.before.before.before.before.before.before.before.before.before.acting.result ≡ 0) → ⊥ = eqb-false _ 0 (failed refl both.1) in
     (sym k.before.before.before.before.before.before.before.before.before.takes-over.ensures ∙ both.0, omega arith)
 
 -- the plan that takes over has few enough ports
-few-waiting : (c : tie.After-old) → c.before.before.before.before.before.before.before.before.before.before.before.before.before.before.before.before.before.before.before.before.before.before.before.before.before.before.before.args.self.waiting.ports ≤ mostPorts
+few-waiting : (c : tie.After-old) → c.before.before.before.before.before.before.before.before.before.before.before.before.before.before.before.before.before.before.before.before.before.before.before.before.before.before.before.args.self.waiting.ports ≤ most_ports
 few-waiting c =
     let t = taking c in
-    ((acted c.before.before.before.before.before.before.before.before.before.before.before.before t.1).waiting (takes-waiting c.before.before.before.before.before.before.before.before.before.before.before.before.before.before.before.before.before.before.before.before.before.before.before.before.before.before.before.args.self t.0)).few-ports
+    ((acted c.before.before.before.before.before.before.before.before.before.before.before.before t.1).waiting (takes_waiting c.before.before.before.before.before.before.before.before.before.before.before.before.before.before.before.before.before.before.before.before.before.before.before.before.before.before.before.args.self t.0)).few_ports
 
 replaced-requires : tie.Need-replaced-requires
 replaced-requires c κs = few-waiting c.before
