@@ -1,3 +1,5 @@
 // What the programs share: reading standard input, and text.
+#![tactic(auto)]
+
 pub mod input;
 pub mod text;

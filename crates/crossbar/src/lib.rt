@@ -1,4 +1,6 @@
 // The crossbar: the switch's state, and its calls start, arrive, load and step.
+#![tactic(auto)]
+
 mod arrive;
 mod load;
 pub mod start;

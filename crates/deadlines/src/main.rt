@@ -1,4 +1,6 @@
 // Prints the deadlines of frames of 64 slots, by the formula: the table that the multiplexer reads them from.
+#![tactic(auto)]
+
 use crate::printout::{PRINTOUT_ROOM, printout};
 use libc::STDOUT_FILENO;
 

@@ -1,5 +1,7 @@
 // The fabric between boards and heads: the queues and crosspoints of all flows, the service counts of all ports, and what the
 // services of one slot do to them.
+#![tactic(auto)]
+
 use crate::flow::{Crosspoint, Queue};
 use multiplexer::Multiplexer;
 use plan::range::{MOST_FLOWS, MOST_PORTS};

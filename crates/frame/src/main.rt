@@ -1,4 +1,6 @@
 // Reads a plan file from standard input and prints the choices of one frame, or the number of the refusal.
+#![tactic(auto)]
+
 ghost use Rattle.std.specs.Prelude.{◌≡◌, length};
 ghost use Rattle.frame.specs.Input.{most_input};
 

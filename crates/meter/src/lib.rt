@@ -1,4 +1,6 @@
 // How evenly an output serves its flows: the least and the most services of a flow in any l consecutive slots of a record.
+#![tactic(auto)]
+
 ghost use Rattle.std.specs.Prelude.{◌≡◌, ◌≤◌, length};
 ghost use Rattle.meter.specs.Cover.{most_record, service_in, cover_at};
 ghost use Rattle.meter.specs.Answer.{wrong_length, cover_verdict, Measures, refused_cover, Covers};

@@ -1,4 +1,6 @@
 // One port's multiplexer: which flow a slot goes to, and how often each flow was served in this frame.
+#![tactic(auto)]
+
 ghost use Rattle.std.specs.Prelude.{◌≡◌, cond, ◌+◌, ◌*◌, ◌<◌, ◌≤◌, min, eqb};
 ghost use Rattle.plan.specs.Range.{most_ports};
 ghost use Rattle.multiplexer.specs.Choose.{rounded_up, choose_of};

@@ -1,4 +1,6 @@
 // Rate plans: which ones are accepted, and the row of one input.
+#![tactic(auto)]
+
 ghost use Rattle.std.specs.Prelude.{◌≡◌};
 ghost use Rattle.plan.specs.NoPlan.{no_plan};
 

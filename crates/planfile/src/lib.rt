@@ -1,4 +1,6 @@
 // The plan file: bytes to an accepted plan, or the refusal; and an accepted plan to bytes (writing).
+#![tactic(auto)]
+
 ghost use Rattle.std.specs.Prelude.{◌≡◌, ◌+◌, ◌*◌, ◌≤◌, length};
 ghost use Rattle.plan.specs.Range.{most_flows};
 ghost use Rattle.plan.specs.Accept.{accept_of};

@@ -1,4 +1,6 @@
 // The plan's text: comma-separated rates to an accepted plan, or the refusal.
+#![tactic(auto)]
+
 ghost use Rattle.std.specs.Prelude.{◌≡◌, ◌*◌, ◌≤◌, length};
 ghost use Rattle.refusal.specs.Outcome.{outcome, written};
 ghost use Rattle.plan.specs.Range.{most_ports};

@@ -1,5 +1,7 @@
 // What the exported functions of gambyre answer: the operations' answers with numbers in the place of their cases. Verdicts and
 // kinds are enums in the header, and an enum of C has 32 bits.
+#![tactic(auto)]
+
 ghost use Rattle.std.specs.Prelude.{◌≡◌};
 ghost use Rattle.refusal.specs.Number.{verdict_number_of};
 ghost use Rattle.fabric.specs.Answer.{kind_of};

@@ -1,4 +1,6 @@
 // Why a call is refused, and the verdict of a call.
+#![tactic(auto)]
+
 ghost use Rattle.std.specs.Prelude.{◌≡◌};
 ghost use Rattle.refusal.specs.Number.{number_of, verdict_number_of};
 

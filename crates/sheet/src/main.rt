@@ -1,4 +1,6 @@
 // Reads a plan's text from standard input and writes the plan file to standard output. N and T are the arguments.
+#![tactic(auto)]
+
 ghost use Rattle.std.specs.Prelude.{◌≡◌, length};
 ghost use Rattle.sheet.specs.Sheet.{most_input};
 

@@ -1,5 +1,7 @@
 // Reads a plan file from standard input and prints how evenly each flow is served, beside what is promised, or the number of
 // the refusal.
+#![tactic(auto)]
+
 ghost use Rattle.std.specs.Prelude.{◌≡◌, length};
 ghost use Rattle.smoothness.specs.Input.{most_input};
 
