@@ -49,6 +49,6 @@ module _ (p q : Plan) (waits : Bool) where
       go false w = simp (plan_is_valid p hp, w)
 
   -- where all but the last test has passed
-  pub frames-left : plan_valid p ≡ true → not waits ≡ false → plan_valid q ≡ true → p.ports ≡ q.ports → eqb p.frame q.frame ≡ plans_valid p q waits
+  pub frames-left : plan_valid p ≡ true → waits ≡ true → plan_valid q ≡ true → p.ports ≡ q.ports → eqb p.frame q.frame ≡ plans_valid p q waits
   unfolding plans_valid
   frames-left a w b e = simp (a, w, b, eq-eqb p.ports q.ports e)
