@@ -1,0 +1,19 @@
+use Rattle.std.proofs.Common.{rules}
+use Prim.Native.Nat.{◌-◌, ◌<◌, ◌≤◌}
+use mathlib.Core.List.{[]}
+use mathlib.Core.Path.{◌≡◌, refl, sym, ap, ◌∙◌}
+use native.Mathlib.Numerals.{add-one}
+use native.Mathlib.Omega.{arith}
+use lib.ListN.{length, take, drop, length-set}
+use lib.Seq.{take-suc-set, take_all}
+use Rattle.plantext.specs.Bytes.{comma}
+use Rattle.plantext.specs.Place.{placed, value_at}
+use Rattle.plantext.specs.Values.{parsed, skip, field, before, series}
+use Rattle.plantext.proofs.PlaceLaws.{series-next, no-mark, no_item}
+use Rattle.plantext.proofs.records.read_record.Given as goal
+
+abbrev pub invariant-loop-k : goal.invariant-loop-k
+invariant-loop-k l = (l.k ≤ l.k-end) × (l.k-end ≡ length l.initial.row) × (length l.row ≡ length l.initial.row) × (series field comma l.k (drop l.from l.text) ≡ parsed (take l.k l.row) (drop l.at l.text))
+
+abbrev pub decreases-loop-k : goal.decreases-loop-k
+decreases-loop-k l = l.k-end - l.k
