@@ -1,15 +1,8 @@
-use Rattle.std.proofs.Common.{rules}
-use Prim.Native.Nat.{◌-◌, ◌<◌, ◌≤◌}
-use mathlib.Core.List.{[]}
-use mathlib.Core.Path.{◌≡◌, refl, sym, ap, ◌∙◌}
-use native.Mathlib.Numerals.{add-one}
-use native.Mathlib.Omega.{arith}
-use lib.ListN.{length, take, drop, length-set}
-use lib.Seq.{take-suc-set, take_all}
+use Prim.Native.Nat.{◌-◌, ◌≤◌}
+use mathlib.Core.Path.{◌≡◌}
+use lib.ListN.{length, take, drop}
 use Rattle.plantext.specs.Bytes.{comma}
-use Rattle.plantext.specs.Place.{placed, value_at}
-use Rattle.plantext.specs.Values.{parsed, skip, field, before, series}
-use Rattle.plantext.proofs.PlaceLaws.{series-next, no-mark, no_item}
+use Rattle.plantext.specs.Values.{parsed, field, series}
 use Rattle.plantext.proofs.records.read_record.Given as goal
 
 abbrev pub invariant-loop-k : goal.invariant-loop-k

@@ -1,7 +1,6 @@
-use Rattle.std.proofs.Common.{◌≡◌, ◌<◌, length, refl, sym, ◌∙◌, add-one, arith}
+use Rattle.std.proofs.Common.{◌≡◌, length, refl, sym, ◌∙◌, add-one, arith}
 use Rattle.std.proofs.Math.Nat.{zero-mul}
 use Rattle.plantext.specs.Bytes.{line_end}
-use Rattle.plantext.specs.Place.{placed}
 use Rattle.plantext.specs.Values.{series, record_of}
 use Rattle.plantext.proofs.PlaceLaws.{series-next, no-mark, no_item}
 use Rattle.plantext.proofs.RowLaws.{row-size, put-size, put-taken}

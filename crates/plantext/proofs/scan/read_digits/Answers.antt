@@ -1,13 +1,8 @@
-use Rattle.std.proofs.Common.{rules}
-use Prim.Native.Nat.{◌-◌, ◌^◌, ◌<◌, ◌≤◌}
-use mathlib.Core.Path.{◌≡◌, refl, sym, ◌∙◌}
+use mathlib.Core.Path.{sym, ◌∙◌}
 use native.Mathlib.Omega.{arith}
-use lib.Dec.{lit<}
-use lib.ListN.{drop}
 use Rattle.plan.proofs.TestLaws.{failed, passed}
-use Rattle.plantext.specs.Values.{digits_from}
 use Rattle.plantext.proofs.NumberLaws.{none_taken}
-use Rattle.plantext.proofs.PlaceLaws.{no-digit-past, no-digit-here, digit-taken, digits_full, value_small, value_below}
+use Rattle.plantext.proofs.PlaceLaws.{no-digit-past, no-digit-here, digit-taken, digits_full, value_below}
 use Rattle.plantext.proofs.scan.read_digits.Goals as goal
 
 pub returns-then-text-at : goal.returns-then-text-at

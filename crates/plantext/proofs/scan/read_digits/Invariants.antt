@@ -1,13 +1,7 @@
-use Rattle.std.proofs.Common.{rules}
 use Prim.Native.Nat.{◌-◌, ◌^◌, ◌<◌, ◌≤◌}
-use mathlib.Core.Path.{◌≡◌, refl, sym, ◌∙◌}
-use native.Mathlib.Omega.{arith}
-use lib.Dec.{lit<}
+use mathlib.Core.Path.{◌≡◌}
 use lib.ListN.{drop}
-use Rattle.plan.proofs.TestLaws.{failed, passed}
 use Rattle.plantext.specs.Values.{digits_from}
-use Rattle.plantext.proofs.NumberLaws.{none_taken}
-use Rattle.plantext.proofs.PlaceLaws.{no-digit-past, no-digit-here, digit-taken, digits_full, value_small, value_below}
 use Rattle.plantext.proofs.scan.read_digits.Given as goal
 
 -- what is taken from here on, with what was taken so far, is what is taken from the beginning

@@ -1,4 +1,3 @@
-use Rattle.std.proofs.Common.{rules}
 use mathlib.Core.Path.{sym}
 use Rattle.plantext.proofs.PlaceLaws.{skip-past, skip-other, skip-byte}
 use Rattle.plantext.proofs.scan.skip.Goals as goal
