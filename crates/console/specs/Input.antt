@@ -5,4 +5,4 @@ use Rattle.console.specs.declared.input.Input.TheVariants.{Bytes, Failed}
 
 abbrev pub ReadWithin : List ℕ → Input → Type 0
 ReadWithin buffer (Bytes n) = n ≤ length buffer
-ReadWithin buffer Failed = Unit {0}
+ReadWithin buffer (Failed e) = Unit {0}
