@@ -1,5 +1,5 @@
 // Standard input.
-ghost use Rattle.console.specs.Input.{ReadWithin};
+ghost use Rattle.console.specs.Input.{ReadsOn, ReadWithin};
 
 use std::io::{Error, Read};
 
@@ -11,8 +11,9 @@ pub enum Input {
 }
 
 // Reads up to the end of the input or of the buffer.
-pub fn read_input(input: &mut impl Read, buffer: &mut [u8]) -> Input
-    ensures { ReadWithin buffer.new result }
+pub fn read_input<R: Read>(input: &mut R, buffer: &mut [u8]) -> Input
+    ensures within { ReadWithin buffer.new result }
+    ensures bytes { ReadsOn (R.remaining input.old) (R.remaining input.new) buffer.new result }
 {
     let mut len = 0;
     while len < buffer.len() {
