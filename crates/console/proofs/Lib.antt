@@ -1,3 +1,4 @@
 pub mod DigitLaws
+pub mod InputLaws
 pub mod TextLaws
 pub mod TextBelowLaws

@@ -1,30 +1,27 @@
 // Standard input.
-ghost use Rattle.console.specs.Input.{ReadWithin};
+ghost use Rattle.console.specs.Input.{ReadsOn, ReadWithin};
 
-use libc::STDIN_FILENO;
+use std::io::{Error, Read};
 
-// What came of reading: how many bytes there were, or that a read failed.
+// What came of reading: how many bytes there were, or why a read failed.
 #[derive(Drop)]
 pub enum Input {
     Bytes(usize),
-    Failed,
+    Failed(Error),
 }
 
 // Reads up to the end of the input or of the buffer.
-pub fn read_input(buffer: &mut [u8]) -> Input
-    ensures { ReadWithin buffer.new result }
+pub fn read_input<R: Read>(input: &mut R, buffer: &mut [u8]) -> Input
+    ensures within { ReadWithin buffer.new result }
+    ensures bytes { ReadsOn (R.remaining input.old) (R.remaining input.new) buffer.new result }
 {
     let mut len = 0;
     while len < buffer.len() {
-        let got = libc::read(STDIN_FILENO, &mut buffer[len..]);
-        if got < 0 {
-            return Input::Failed;
+        match input.read(&mut buffer[len..]) {
+            Ok(0) => return Input::Bytes(len),
+            Ok(more) => len += more,
+            Err(e) => return Input::Failed(e),
         }
-        let more = io::count(got, &buffer[len..]);
-        if more == 0 {
-            return Input::Bytes(len);
-        }
-        len += more;
     }
     Input::Bytes(len)
 }

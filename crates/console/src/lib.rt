@@ -1,5 +1,6 @@
-// What the programs share: reading standard input, and text.
+// What the programs share: reading standard input, saying what failed, and text.
 #![tactic(auto)]
 
+pub mod failure;
 pub mod input;
 pub mod text;

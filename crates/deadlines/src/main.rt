@@ -2,14 +2,14 @@
 #![tactic(auto)]
 
 use crate::printout::{PRINTOUT_ROOM, printout};
-use libc::STDOUT_FILENO;
+use console::failure::fail;
 
 mod printout;
 
-fn main() {
+fn main(rt: HostRuntime) {
     let mut out = [0u8; PRINTOUT_ROOM];
     let count = printout(&mut out);
-    if !io::write_all(STDOUT_FILENO, &out[..count]) {
-        os::fail(b"standard output");
+    if let Err(error) = rt.write_all(&out[..count]) {
+        fail(&rt, "standard output", error);
     }
 }

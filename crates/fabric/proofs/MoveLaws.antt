@@ -1,7 +1,7 @@
 -- The boards' services, board by board: what each one finds, and what the flows, answers and lists are after them.
 use Prim.Native.Nat.{ℕ, zero, suc, ◌+◌, ◌*◌, ◌<◌, ◌≤◌}
 use mathlib.Core.Path.{◌≡◌, refl, ap, sym, ◌∙◌}
-use mathlib.Core.Bool.{Bool, true, false, or_true}
+use mathlib.Core.Bool.{Bool, true, false, or-true}
 use mathlib.Core.List.{List}
 use native.Mathlib.Numerals.{add-one}
 use native.Mathlib.Omega.{arith}
@@ -84,7 +84,7 @@ module _ (n : ℕ) (choices : List Choice) (queues : List Queue) (points : List 
     where
       go : (i : ℕ) → i < n → (c : Choice) → choice_at choices i ≡ c → room_for n queues points i c ≡ true
       go i hi Idle e = refl
-      go i hi (Flow j) e = rw (lt-ltb _ crosspoint_depth (left i j hi e)) (or_true (eqb (get_or queues (flow_of n i j) no_queue).count 0))
+      go i hi (Flow j) e = rw (lt-ltb _ crosspoint_depth (left i j hi e)) (or-true (eqb (get_or queues (flow_of n i j) no_queue).count 0))
 
   -- what the test says of one board
   room_at : room_for_all n choices queues points ≡ true → (i j : ℕ) → i < n → choice_at choices i ≡ Flow j

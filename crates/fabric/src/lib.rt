@@ -17,7 +17,7 @@ pub mod valid;
 // Flow (i, j) has number i * N + j in both lists, and a multiplexer counts by the other port's number. A phase of a slot takes
 // the fabric and hands it on, so that no copy is kept.
 #[repr(C)]
-#[derive(Drop)]
+#[derive(Clone, Copy)]
 pub struct Fabric {
     pub queues: [Queue; MOST_FLOWS],
     pub crosspoints: [Crosspoint; MOST_FLOWS],

@@ -12,7 +12,7 @@ use side::choices::Turn;
 use side::places::flow_place;
 
 // What one board's service makes of its flow.
-#[derive(Drop)]
+#[derive(Clone, Copy)]
 pub struct Move {
     pub queue: Queue,
     pub point: Crosspoint,

@@ -10,7 +10,7 @@ use side::choices::Turn;
 use side::places::flow_place;
 
 // What one head's service makes of its flow.
-#[derive(Drop)]
+#[derive(Clone, Copy)]
 pub struct Send {
     pub point: Crosspoint,
     pub port: Port,

@@ -5,25 +5,25 @@ use plan::range::MOST_SLOTS;
 use planfile::read;
 use plantext::read_text;
 
-pub fn plan(what: &[u8], n: usize, t: u32, rates: &[u16]) {
-    report(what, accept(n, t, rates));
+pub fn plan(rt: &impl Print, what: &[u8], n: usize, t: u32, rates: &[u16]) {
+    report(rt, what, accept(n, t, rates));
 }
 
-pub fn frame(t: u32) {
-    report_at(b"T = ", t as usize, accept(1, t, &[0; 1]));
+pub fn frame(rt: &impl Print, t: u32) {
+    report_at(rt, b"T = ", t as usize, accept(1, t, &[0; 1]));
 }
 
-pub fn ports(n: usize, rates: &[u16]) {
-    report_at(b"N = ", n, accept(n, 1, rates));
+pub fn ports(rt: &impl Print, n: usize, rates: &[u16]) {
+    report_at(rt, b"N = ", n, accept(n, 1, rates));
 }
 
-pub fn file(what: &[u8], bytes: &[u8]) {
+pub fn file(rt: &impl Print, what: &[u8], bytes: &[u8]) {
     let reading = read(bytes);
     let verdict = reading.verdict;
-    report(what, verdict);
+    report(rt, what, verdict);
 }
 
 // A text for one port.
-pub fn text(what: &[u8], text: &[u8]) {
-    report(what, read_text(1, MOST_SLOTS, text, &mut [0; 1]));
+pub fn text(rt: &impl Print, what: &[u8], text: &[u8]) {
+    report(rt, what, read_text(1, MOST_SLOTS, text, &mut [0; 1]));
 }

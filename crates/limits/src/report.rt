@@ -1,32 +1,31 @@
 // The lines of the table: what was tried, and the verdict.
-use libc::STDOUT_FILENO;
 use refusal::Verdict;
 
 fn wide(x: u8) -> u64 {
     x as u64
 }
 
-fn end_line(verdict: Verdict) {
+fn end_line(rt: &impl Print, verdict: Verdict) {
     let Verdict::Refused(_) = verdict else {
-        io::write_all(STDOUT_FILENO, b" accepted\n");
+        let _ = rt.write_all(b" accepted\n");
         return;
     };
-    io::write_all(STDOUT_FILENO, b" refused ");
-    io::print_decimal(STDOUT_FILENO, wide(verdict.number()));
-    io::write_all(STDOUT_FILENO, b"\n");
+    let _ = rt.write_all(b" refused ");
+    let _ = rt.print(wide(verdict.number()));
+    let _ = rt.write_all(b"\n");
 }
 
-pub fn say(name: &[u8], value: usize) {
-    io::write_all(STDOUT_FILENO, name);
-    io::print_decimal(STDOUT_FILENO, value as u64);
+pub fn say(rt: &impl Print, name: &[u8], value: usize) {
+    let _ = rt.write_all(name);
+    let _ = rt.print(value);
 }
 
-pub fn report(what: &[u8], verdict: Verdict) {
-    io::write_all(STDOUT_FILENO, what);
-    end_line(verdict);
+pub fn report(rt: &impl Print, what: &[u8], verdict: Verdict) {
+    let _ = rt.write_all(what);
+    end_line(rt, verdict);
 }
 
-pub fn report_at(name: &[u8], value: usize, verdict: Verdict) {
-    say(name, value);
-    end_line(verdict);
+pub fn report_at(rt: &impl Print, name: &[u8], value: usize, verdict: Verdict) {
+    say(rt, name, value);
+    end_line(rt, verdict);
 }

@@ -16,7 +16,7 @@ pub const IDLE_SLOT: u16 = 65535;
 
 // How many services a stretch has, and the place of its first slot.
 #[repr(C)]
-#[derive(Drop)]
+#[derive(Clone, Copy)]
 pub struct Stretch {
     pub services: usize,
     pub place: usize,

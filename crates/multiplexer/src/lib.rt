@@ -32,7 +32,7 @@ const NEVER: u64 = 281474976710655;
 const RATES: u64 = 65536;
 
 // What a slot is used for.
-#[derive(Drop)]
+#[derive(Clone, Copy)]
 pub enum Choice {
     // no flow is served
     Idle,
@@ -42,13 +42,13 @@ pub enum Choice {
 
 // How often each flow of the port was served in this frame.
 #[repr(C)]
-#[derive(Drop)]
+#[derive(Clone, Copy)]
 pub struct Multiplexer {
     pub served: [u16; MOST_PORTS],
 }
 
 // A port after a slot, and what it used the slot for.
-#[derive(Drop)]
+#[derive(Clone, Copy)]
 pub struct Served {
     pub port: Multiplexer,
     pub choice: Choice,
@@ -56,7 +56,7 @@ pub struct Served {
 
 // The flow chosen among those looked at so far, or NO_FLOW, and its rank. The number has a count's width, so that
 // `counted` compares it with many flows' numbers at a time.
-#[derive(Drop)]
+#[derive(Clone, Copy)]
 struct Candidate {
     flow: u16,
     rank: u64,

@@ -14,7 +14,7 @@ pub mod range;
 
 // N, T and N x N rates, row by row; the places past N x N are not part of the plan.
 #[repr(C)]
-#[derive(Drop)]
+#[derive(Clone, Copy)]
 pub struct Plan {
     pub ports: usize,
     pub frame: u32,

@@ -1,9 +1,9 @@
 -- What owning a plan tells of its array: it has its length, and so room for N × N rates.
-use Prim.Native.Nat.{ℕ, ◌*◌, ◌≤◌}
-use mathlib.Core.List.{List, map}
-use mathlib.Core.Path.{◌≡◌, sym, ◌∙◌}
+use Prim.Native.Nat.{◌*◌, ◌≤◌}
+use mathlib.Core.List.{List}
+use mathlib.Core.Path.{◌≡◌}
 use native.Mathlib.Omega.{arith}
-use lib.ListN.{length, length-map}
+use lib.ListN.{length}
 use lib.Seq.{length-take-le}
 use mir.Syntax.{w16}
 use mir.Val.{Val}
@@ -19,9 +19,7 @@ use Rattle.planpair.specs.Rates.{plan_rates}
 module _ (p : Plan) (vs : List Val) (owned : Is (row the_type) p vs) where
   -- `owned` has a part for each field of the struct, and the rates are the third
   pub rates-full : length p.rates ≡ most_flows
-  rates-full =
-      let same : ℕ → ℕ = λ x. x in
-      sym (length-map p.rates same) ∙ good_length (e_int w16) most_flows (map same p.rates) _ owned.1.1.1.1.0
+  rates-full = good_length (e_int w16) most_flows p.rates _ owned.1.1.1.1.0
 
   pub rates-cover : p.ports ≤ most_ports → p.ports * p.ports ≤ length p.rates
   rates-cover few = omega (arith, rates-full, square_small p.ports few)

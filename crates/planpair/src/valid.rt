@@ -23,6 +23,7 @@ fn plan_valid(n: usize, t: u32, rates: &[u16]) -> bool
 }
 
 // N, T and the rates of the running plan, then of the waiting one, which is judged only while one waits.
+#[tactic(auto, unfolding(crate::specs::Valid::plans_valid))]
 pub fn plans_valid<'a>(
     n: usize,
     t: u32,

@@ -2,6 +2,7 @@
 ghost use Rattle.std.specs.Prelude.{true, ◌≡◌, ◌<◌};
 ghost use Rattle.plantext.specs.Bytes.{is_digit, digit_of};
 
+#[tactic(auto, unfolding(crate::specs::Bytes::is_digit))]
 pub fn is_digit(byte: u8) -> bool
     ensures { result ≡ is_digit byte }
 {
@@ -11,6 +12,7 @@ pub fn is_digit(byte: u8) -> bool
     byte <= b'9'
 }
 
+#[tactic(auto, unfolding(crate::specs::Bytes::is_digit))]
 pub fn digit_of(byte: u8) -> u32
     requires { is_digit byte ≡ true }
     ensures { (result ≡ digit_of byte) × (result < 10) }

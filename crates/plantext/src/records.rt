@@ -7,6 +7,7 @@ ghost use Rattle.plantext.specs.Place.{placed, found};
 use crate::scan::{Place, Value, read_field, skip, skip_line_end};
 
 // A comma stands before each field of a record but the first.
+#[tactic(auto, unfolding(crate::specs::Values::skip))]
 fn field_start(text: &[u8], at: usize, k: usize) -> Place
     ensures { placed text.now [] result ≡ values.skip (values.before comma k) (drop at text.now) }
 {
@@ -35,6 +36,7 @@ fn read_record(text: &[u8], from: usize, row: &mut [u16]) -> Place
 }
 
 // CR LF stands before each record but the first.
+#[tactic(auto, unfolding(crate::specs::Values::skip))]
 fn record_start(text: &[u8], at: usize, k: usize) -> Place
     ensures { placed text.now [] result ≡ values.skip (values.before line_end k) (drop at text.now) }
 {
@@ -77,6 +79,7 @@ fn ends(text: &[u8], at: usize) -> bool
 }
 
 // Puts the values of a text for n inputs into the list, and answers whether the text keeps to the rules.
+#[tactic(auto, unfolding(crate::specs::Values::values_of))]
 pub fn read_values(text: &[u8], n: usize, list: &mut [u16]) -> bool
     requires { length list.old ≡ n * n }
     ensures { found result list.new ≡ values.values_of n text.now }

@@ -79,6 +79,7 @@ fn read_digits(text: &[u8], from: usize) -> Digits
     }
 }
 
+#[tactic(auto, unfolding(crate::specs::Values::number))]
 fn read_number(text: &[u8], at: usize) -> Value
     ensures { value_at text.now result ≡ values.number (drop at text.now) }
 {
@@ -93,6 +94,7 @@ fn read_number(text: &[u8], at: usize) -> Value
 }
 
 // Plain or in double quotes.
+#[tactic(auto, unfolding(crate::specs::Values::field))]
 pub fn read_field(text: &[u8], at: usize) -> Value
     ensures { value_at text.now result ≡ values.field (drop at text.now) }
 {

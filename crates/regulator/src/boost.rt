@@ -27,6 +27,7 @@ fn sums_fit(sums: [u32; MOST_PORTS], n: usize, t: u32) -> bool
 }
 
 // The column of row i on diagonal k.
+#[tactic(auto, using(crate::proofs::DiagonalLaws::column_below), unfolding(crate::specs::Boost::column_on))]
 fn column_on(n: usize, k: usize, i: usize) -> usize
     requires { (n ≤ most_ports) × (k < n) × (i < n) }
     ensures { (result ≡ column_on n k i) × (result < n) }
@@ -61,6 +62,7 @@ fn boost_diagonal(n: usize, t: u32, k: usize, sums: Sums, rates: &mut [u16]) -> 
 }
 
 // The diagonal in a turn of a period. The sum has 64 bits, so that no period number makes it wrap.
+#[tactic(auto, using(crate::proofs::PeriodLaws::in_below), unfolding(crate::specs::Boost::diagonal_in))]
 fn diagonal_in(n: usize, period: u32, turn: usize) -> usize
     requires { (n ≤ most_ports) × (turn < n) }
     ensures { (result ≡ diagonal_in n period turn) × (result < n) }
@@ -68,6 +70,7 @@ fn diagonal_in(n: usize, period: u32, turn: usize) -> usize
     (period as usize + turn) % n
 }
 
+#[tactic(auto, unfolding(crate::specs::Boost::boosted_of, crate::specs::Boost::boost_diagonals))]
 fn boost_diagonals(n: usize, t: u32, period: u32, sums: Sums, rates: &mut [u16])
     requires { IsPlan n t rates.old × LineSums rates.old n sums.rows sums.columns }
     ensures { rates.new ≡ boosted_of n t period rates.old }

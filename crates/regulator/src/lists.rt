@@ -6,6 +6,7 @@ use plan::range::{frame_in_range, is_square, ports_in_range};
 use refusal::{Refusal, Verdict};
 
 // N, T and the lengths of the two lists.
+#[tactic(auto, unfolding(crate::specs::Outcome::lists_of))]
 pub fn check_lists(n: usize, t: u32, from: usize, to: usize) -> Verdict
     ensures { result ≡ lists_of n t from to }
 {

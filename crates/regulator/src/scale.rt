@@ -34,6 +34,7 @@ fn scale_places(n: usize, t: u32, demands: &[u16], rates: &mut [u16])
 }
 
 // Writes the rates of the demands, and answers whether it did.
+#[tactic(auto, using(crate::proofs::OutcomeLaws::lists_passed), unfolding(crate::specs::Scale::scale_of))]
 pub fn scale(n: usize, t: u32, demands: &[u16], rates: &mut [u16]) -> Verdict
     ensures { outcome result rates.new ≡ scale_of n t demands.now rates.old }
 {

@@ -6,11 +6,12 @@ ghost use Rattle.sheet.specs.Sheet.{most_input};
 
 use crate::argument::{Argument, read_argument};
 use crate::plan_file::plan_file;
+use console::failure::fail;
 use console::input::{Input, read_input};
 use console::text::{REFUSAL_ROOM, refusal_line};
-use libc::{STDERR_FILENO, STDOUT_FILENO};
 use plantext::MOST_TEXT;
 use refusal::Verdict;
+use std::env::{Env, FillError};
 
 mod argument;
 mod plan_file;
@@ -27,59 +28,73 @@ fn input_room() -> [u8; MOST_INPUT]
     [0; MOST_INPUT]
 }
 
-fn usage() {
-    io::write_all(STDERR_FILENO, b"use: sheet N T <plan.csv >plan.lsp\n");
+fn usage(rt: &HostRuntime) {
+    let _ = eprintln!(rt; "use: sheet N T <plan.csv >plan.lsp");
 }
 
-fn refuse(verdict: Verdict) {
+#[tactic(auto, using(console::proofs::TextLaws::refusal_short))]
+fn refuse(rt: &HostRuntime, verdict: Verdict) {
     let mut line = [0u8; REFUSAL_ROOM];
     let end = refusal_line(&mut line, 0, verdict);
-    io::write_all(STDERR_FILENO, &line[..end]);
+    let _ = rt.stderr().write_all(&line[..end]);
 }
 
-fn print(file: &[u8]) {
-    if !io::write_all(STDOUT_FILENO, file) {
-        os::fail(b"standard output");
+fn print(rt: &HostRuntime, file: &[u8]) {
+    if let Err(error) = rt.write_all(file) {
+        fail(rt, "standard output", error);
+    }
+}
+
+// Whether there is an argument at a place, as long as it may be.
+fn is_given(rt: &HostRuntime, place: usize) -> bool {
+    match rt.arg(place, &mut []) {
+        Err(FillError::NotPresent) => false,
+        _ => true,
     }
 }
 
 // The argument at a place; a missing one is no number.
-fn argument_at(place: usize) -> Argument {
+fn argument_at(rt: &HostRuntime, place: usize) -> Argument {
     let mut text = [0u8; LONGEST_ARGUMENT];
-    let len = os::arg(place, &mut text);
-    read_argument(&text[..len])
+    match rt.arg(place, &mut text) {
+        Ok(len) => read_argument(&text[..len]),
+        Err(_) => Argument::Other,
+    }
 }
 
 // Standard input to standard output.
-fn convert(n: u32, t: u32) {
+fn convert(rt: &HostRuntime, n: u32, t: u32) {
     let mut text = input_room();
-    let Input::Bytes(len) = read_input(&mut text) else {
-        os::fail(b"standard input");
-        return;
+    let len = match read_input(&mut rt.stdin(), &mut text) {
+        Input::Bytes(len) => len,
+        Input::Failed(error) => {
+            fail(rt, "standard input", error);
+            return;
+        }
     };
     let file = plan_file(n as usize, t, &text[..len]);
     let verdict = file.verdict;
     let Verdict::Accepted = verdict else {
-        refuse(verdict);
+        refuse(rt, verdict);
         return;
     };
     let bytes = file.bytes;
     let length = file.length;
-    print(&bytes[..length]);
+    print(rt, &bytes[..length]);
 }
 
-fn main() {
-    if os::arg_count() != 3 {
-        usage();
+fn main(rt: HostRuntime) {
+    if is_given(&rt, 3) {
+        usage(&rt);
         return;
     }
-    let Argument::Number(n) = argument_at(1) else {
-        usage();
+    let Argument::Number(n) = argument_at(&rt, 1) else {
+        usage(&rt);
         return;
     };
-    let Argument::Number(t) = argument_at(2) else {
-        usage();
+    let Argument::Number(t) = argument_at(&rt, 2) else {
+        usage(&rt);
         return;
     };
-    convert(n, t);
+    convert(&rt, n, t);
 }

@@ -10,14 +10,14 @@ use plan::desk::desk_view;
 use plan::range::MOST_PORTS;
 
 // A choice in two bytes, so that a list of them is short to copy: whether the port serves another, and which.
-#[derive(Drop)]
+#[derive(Clone, Copy)]
 pub struct Turn {
     pub serves: bool,
     pub other: u8,
 }
 
 // The ports of one side after a slot, and their choices in it.
-#[derive(Drop)]
+#[derive(Clone, Copy)]
 pub struct Side {
     pub ports: [Multiplexer; MOST_PORTS],
     pub turns: [Turn; MOST_PORTS],

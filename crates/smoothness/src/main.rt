@@ -6,8 +6,8 @@ ghost use Rattle.std.specs.Prelude.{◌≡◌, length};
 ghost use Rattle.smoothness.specs.Input.{most_input};
 
 use crate::printout::{PRINTOUT_ROOM, printout};
+use console::failure::fail;
 use console::input::{Input, read_input};
-use libc::STDOUT_FILENO;
 use planfile::LONGEST_FILE;
 
 mod bound;
@@ -25,15 +25,18 @@ fn input_room() -> [u8; MOST_INPUT]
     [0; MOST_INPUT]
 }
 
-fn main() {
+fn main(rt: HostRuntime) {
     let mut file = input_room();
-    let Input::Bytes(len) = read_input(&mut file) else {
-        os::fail(b"standard input");
-        return;
+    let len = match read_input(&mut rt.stdin(), &mut file) {
+        Input::Bytes(len) => len,
+        Input::Failed(error) => {
+            fail(&rt, "standard input", error);
+            return;
+        }
     };
     let mut out = [0u8; PRINTOUT_ROOM];
     let count = printout(&file[..len], &mut out);
-    if !io::write_all(STDOUT_FILENO, &out[..count]) {
-        os::fail(b"standard output");
+    if let Err(error) = rt.write_all(&out[..count]) {
+        fail(&rt, "standard output", error);
     }
 }

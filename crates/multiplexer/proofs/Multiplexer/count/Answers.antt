@@ -1,0 +1,29 @@
+use Rattle.std.proofs.Common.{rules}
+use Prim.Native.Nat.{ℕ}
+use mathlib.Core.Path.{◌≡◌, sym, ap, ◌∙◌}
+use mathlib.Core.List.{List}
+use native.Mathlib.Omega.{arith}
+use lib.ListN.{length}
+use Rattle.plan.specs.Range.{most_ports}
+use Rattle.multiplexer.specs.Count.{count_of}
+use Rattle.multiplexer.specs.declared.Multiplexer.{Multiplexer}
+use Rattle.multiplexer.proofs.CountLaws.{count_idle, count_outside}
+use Rattle.multiplexer.proofs.NumberLaws.{flow_choice}
+use Rattle.multiplexer.proofs.Multiplexer.count.Goals as goal
+
+abbrev countsIn : List ℕ → Multiplexer
+countsIn ks = record { served = ks }
+
+pub returns-in_default : goal.returns-in_default
+returns-in_default c = ap countsIn (sym (rw c.in_default.is (count_idle c.args.self.served)))
+
+pub returns-then-f-ge-MOST_PORTS : goal.returns-then-f-ge-MOST_PORTS
+returns-then-f-ge-MOST_PORTS c =
+    let a = c.args in
+    let full : length a.self.served ≡ most_ports = search rules in
+    ap countsIn (sym (rw c.in-Flow.is (count_outside a.self.served _ (omega arith))))
+
+pub returns : goal.returns
+returns c =
+    let chosen = flow_choice _ (omega arith) ∙ sym c.in-Flow.is in
+    c.counted.ensures ∙ ap (count_of c.args.self) chosen
