@@ -13,14 +13,9 @@ if [[ $prefix == *[\"\'\\\$\#]* || $prefix == *$'\n'* ]]; then
     echo "install.sh: a pkg-config file can't name a folder with quotes, \\, \$, # or a line break in it: $prefix" >&2
     exit 2
 fi
-if ! command -v rt >/dev/null; then
-    echo "install.sh: no 'rt', the command of the Rattle kit; README.md says more" >&2
-    exit 1
-fi
 
 cd "$(dirname "$0")"
-mkdir -p target
-rt staticlib gambyre >target/gambyre.log 2>&1 || { cat target/gambyre.log >&2; exit 1; }
+bash build.sh gambyre
 
 version=$(sed -n 's/^#define GAMBYRE_VERSION "\(.*\)"$/\1/p' include/gambyre.h)
 cat >target/gambyre.pc <<END

@@ -3,8 +3,7 @@
 # cost: times, then bytes copied. Arguments go to the program that takes the times.
 set -euo pipefail
 cd "$(dirname "$0")/.."
-mkdir -p target
-rt staticlib gambyre >target/gambyre.log 2>&1 || { cat target/gambyre.log; exit 1; }
+bash build.sh gambyre
 bash bench/build.sh target/staticlib/libgambyre.a
 target/bench "$@"
 target/bytes

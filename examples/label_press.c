@@ -3,7 +3,7 @@
  * and follows its flow (0, 0), which has 3 of the frame's 9 slots: what its board and its head do, slot by slot, and how
  * many cells stand at its crosspoint. It is the flow of docs/two_cells.svg.
  *
- *     rt staticlib gambyre
+ *     bash build.sh gambyre
  *     gcc -std=c99 -Wall -Wextra -O2 -I include examples/label_press.c target/staticlib/libgambyre.a -o target/label_press
  *     target/label_press
  *

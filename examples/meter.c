@@ -3,7 +3,7 @@
  * four frames. What head 0 answers is recorded slot by slot, and measured: the least and the most services of each board
  * in any so many slots, where they first occur, and what is promised. It is the plan of docs/two_cells.svg.
  *
- *     rt staticlib gambyre
+ *     bash build.sh gambyre
  *     gcc -std=c99 -Wall -Wextra -O2 -I include examples/meter.c target/staticlib/libgambyre.a -o target/meter
  *     target/meter
  *

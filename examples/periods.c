@@ -3,7 +3,7 @@
  * same. In each period they are scaled to a plan, and the slots that it leaves over are given out from another diagonal on,
  * so that no flow has the first turn for ever. It prints the plan that runs in each period, a row for each board.
  *
- *     rt staticlib gambyre
+ *     bash build.sh gambyre
  *     gcc -std=c99 -Wall -Wextra -O2 -I include examples/periods.c target/staticlib/libgambyre.a -o target/periods
  *     target/periods
  *

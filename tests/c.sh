@@ -1,7 +1,7 @@
 #!/usr/bin/env bash
 # The header, the examples and tests/header.c in C and C++, with gcc, and with clang where it is: the header compiles alone
 # in each version of the languages, each example prints what is stored, and tests/header.c finds no difference; once more
-# with the address and undefined-behaviour sanitizers. Usage: tests/c.sh, after 'rt staticlib gambyre'.
+# with the address and undefined-behaviour sanitizers. Usage: tests/c.sh, after 'bash build.sh gambyre'.
 set -euo pipefail
 cd "$(dirname "$0")/.."
 archive=target/staticlib/libgambyre.a
@@ -50,7 +50,7 @@ stops() {
     grep -q -- "$text" "$out/stops.log" || { cat "$out/stops.log"; fail "'$text' is not what the compiler says"; }
 }
 
-[ -e "$archive" ] || fail "no archive: 'rt staticlib gambyre' builds it"
+[ -e "$archive" ] || fail "no archive: 'bash build.sh gambyre' builds it"
 mkdir -p "$out"
 
 # Each field's comment in the header begins with the field's offset.

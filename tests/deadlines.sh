@@ -1,7 +1,7 @@
 #!/usr/bin/env bash
 # Holds the printout of the program `deadlines`, and the table in the multiplexer's code, to the stored printout, number by
 # number, and that to the rule; then runs the program on outputs that fail. Usage: tests/deadlines.sh [PROGRAM], by default
-# target/bin/deadlines, which 'rt check deadlines' builds.
+# target/bin/deadlines, which 'bash build.sh deadlines' builds.
 set -euo pipefail
 cd "$(dirname "$0")/.."
 . tests/programs.sh
@@ -26,7 +26,7 @@ constants() {
     sed -n '/^const /,/;$/p' "$code" | sed 's/^const .*=//' | grep -o '[0-9]\+'
 }
 
-[ -x "$program" ] || fail "no program '$program': 'rt check deadlines' builds it"
+[ -x "$program" ] || fail "no program '$program': 'bash build.sh deadlines' builds it"
 same "the program" cat "$stored" </dev/null
 program=constants same "the table in $code" cat "$stored" </dev/null
 program=by_rule same "the rule" cat "$stored" </dev/null

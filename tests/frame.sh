@@ -1,7 +1,7 @@
 #!/usr/bin/env bash
 # Runs the program `frame` on every plan file of examples/, on the largest plan and on inputs and outputs that fail, and
-# compares what it prints, byte by byte. Usage: tests/frame.sh [PROGRAM], by default target/bin/frame, which 'rt check frame'
-# builds.
+# compares what it prints, byte by byte. Usage: tests/frame.sh [PROGRAM], by default target/bin/frame, which
+# 'bash build.sh frame' builds.
 set -euo pipefail
 cd "$(dirname "$0")/.."
 . tests/programs.sh
@@ -21,7 +21,7 @@ full_printout() {
     done
 }
 
-[ -x "$program" ] || fail "no program '$program': 'rt check frame' builds it"
+[ -x "$program" ] || fail "no program '$program': 'bash build.sh frame' builds it"
 shopt -s globstar nullglob
 plans=(examples/**/*.lsp)
 [ ${#plans[@]} -gt 0 ] || fail "examples/ has no plan file"

@@ -38,7 +38,7 @@ bash install.sh target/prefix
 by_pkg_config "$PWD/target/prefix"
 modes target/prefix
 
-# rt proves the crate anew at each call. The archive is there now: further calls get an rt that does nothing.
+# rt goes over the proofs at each call. The archive is there now: further calls get an rt that does nothing.
 mkdir -p target/no-rt
 printf '#!/bin/sh\n' >target/no-rt/rt
 chmod +x target/no-rt/rt

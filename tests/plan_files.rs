@@ -117,7 +117,7 @@ fn printed_for(program: &str, file: &[u8]) -> String {
         .stdin(Stdio::piped())
         .stdout(Stdio::piped())
         .spawn()
-        .expect("'rt check frame smoothness' builds the programs");
+        .expect("'bash build.sh frame smoothness' builds the programs");
     // The program may stop reading before the end of a file that is too long.
     let _ = running.stdin.take().expect("it is piped").write_all(file);
     let output = running.wait_with_output().expect("it was started");

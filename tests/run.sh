@@ -47,8 +47,8 @@ bash tests/tools.sh
 mkdir -p target
 trap 'kill "${beside:-}" 2>/dev/null || true' EXIT
 
-# Two calls of rt would write the same files.
-rt check frame sheet smoothness deadlines >target/programs.log 2>&1 || { cat target/programs.log; exit 1; }
+# Of two calls of rt the second would wait for the crates that both use.
+bash build.sh frame sheet smoothness deadlines
 beside library library
 programs
 joined

@@ -1,7 +1,7 @@
 #!/usr/bin/env bash
 # Runs the program `sheet` on every text of examples/, all of them of 3 boards and 15 slots, on the longest text and on longer
 # ones, with right and wrong arguments, and on inputs and outputs that fail, and compares what it writes, byte by byte.
-# Usage: tests/sheet.sh [PROGRAM], by default target/bin/sheet, which 'rt check sheet' builds.
+# Usage: tests/sheet.sh [PROGRAM], by default target/bin/sheet, which 'bash build.sh sheet' builds.
 set -euo pipefail
 cd "$(dirname "$0")/.."
 . tests/programs.sh
@@ -44,7 +44,7 @@ longest() {
     done
 }
 
-[ -x "$program" ] || fail "no program '$program': 'rt check sheet' builds it"
+[ -x "$program" ] || fail "no program '$program': 'bash build.sh sheet' builds it"
 mkdir -p "$out"
 shopt -s globstar nullglob
 texts=(examples/**/*.csv)

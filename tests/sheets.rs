@@ -135,7 +135,7 @@ fn answer(arguments: &[Vec<u8>], text: &[u8]) -> Answer {
         .stdout(Stdio::piped())
         .stderr(Stdio::piped())
         .spawn()
-        .expect("'rt check sheet' builds the program");
+        .expect("'bash build.sh sheet' builds the program");
     let mut input = program.stdin.take().expect("it is piped");
     let output = std::thread::scope(|scope| {
         // The write fails where the program ends before it has read a text that is too long.

@@ -1,7 +1,7 @@
 #!/usr/bin/env bash
 # Runs the program `smoothness` on every plan file of examples/, on frames of few slots, on the largest plan and on inputs and
 # outputs that fail, and compares what it prints, byte by byte. Usage: tests/smoothness.sh [PROGRAM], by default
-# target/bin/smoothness, which 'rt check smoothness' builds.
+# target/bin/smoothness, which 'bash build.sh smoothness' builds.
 set -euo pipefail
 cd "$(dirname "$0")/.."
 . tests/programs.sh
@@ -41,7 +41,7 @@ full_printout() {
     done
 }
 
-[ -x "$program" ] || fail "no program '$program': 'rt check smoothness' builds it"
+[ -x "$program" ] || fail "no program '$program': 'bash build.sh smoothness' builds it"
 shopt -s globstar nullglob
 plans=(examples/**/*.lsp)
 [ ${#plans[@]} -gt 0 ] || fail "examples/ has no plan file"

@@ -1,7 +1,7 @@
 -- What owning a state tells of its arrays: they have their lengths.
 use mathlib.Core.List.{List}
-use mathlib.Core.Path.{◌≡◌, sym, ◌∙◌}
-use lib.ListN.{length, length-map}
+use mathlib.Core.Path.{◌≡◌}
+use lib.ListN.{length}
 use mir.Val.{Val}
 use denote.Laws.{Is}
 use denote.Struct.Declared.{row}
@@ -23,6 +23,6 @@ owned_sized s vs owned =
     record {
       running = rates-full s.running _ owned.1.1.0;
       waiting = rates-full s.waiting _ owned.1.1.1.0;
-      queues = sym (length-map s.fabric.queues _) ∙ owned.1.1.1.1.1.1.1.0.1.1.0.1.0.1;
-      points = sym (length-map s.fabric.crosspoints _) ∙ owned.1.1.1.1.1.1.1.0.1.1.1.0.1.0.1;
+      queues = owned.1.1.1.1.1.1.1.0.1.1.0.1.0.1;
+      points = owned.1.1.1.1.1.1.1.0.1.1.1.0.1.0.1;
     }

@@ -8,7 +8,7 @@ use refusal::Verdict;
 // What stands for ports from N up is neither looked at nor changed. `waits` is 0 where no plan waits; every other number says
 // that one does.
 #[repr(C)]
-#[derive(Drop)]
+#[derive(Clone, Copy)]
 pub struct Switch {
     pub running: Plan,
     pub waiting: Plan,

@@ -1,6 +1,6 @@
 -- Writing and reading undo one another: the bytes of a plan are read as that plan, and the plan of an accepted file is
 -- written as that file.
-use Prim.Native.Nat.{ℕ, zero, suc, ◌+◌, ◌*◌, ◌-◌, ◌/◌, ◌%◌, ◌<◌, ◌≤◌}
+use Prim.Native.Nat.{ℕ, zero, suc, ◌+◌, ◌*◌, ◌/◌, ◌%◌, ◌<◌, ◌≤◌}
 use mathlib.Core.Path.{◌≡◌, refl, ap, sym, ◌∙◌}
 use mathlib.Core.Bool.{true, ◌&&◌}
 use mathlib.Core.List.{List, [], ◌∷◌, ◌++◌, append_assoc, append-nil}
@@ -31,9 +31,6 @@ use Rattle.planfile.proofs.ReadLaws.{accepted_file}
 head_length : (n t : ℕ) → length (head_of n t) ≡ 8
 unfolding head_of
 head_length n t = refl
-
-pub head_room_lem : (n t : ℕ) → length (head_of n t) ≤ longest_file
-head_room_lem n t = omega (arith, head_length n t)
 
 rate_bytes_length : (rates : List ℕ) (count : ℕ) → length (rate_bytes rates count) ≡ 2 * count
 unfolding rate_bytes

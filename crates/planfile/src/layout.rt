@@ -26,6 +26,7 @@ fn word_at(bytes: &[u8], at: usize) -> u16
 }
 
 // Whether the file begins with the mark and the version.
+#[tactic(auto, unfolding(crate::specs::Layout::is_marked))]
 pub fn is_plan_file(bytes: &[u8]) -> bool
     requires { 8 ≤ length bytes.now }
     ensures { result ≡ (is_marked bytes.now && eqb (version_in bytes.now) 1) }

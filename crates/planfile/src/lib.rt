@@ -57,6 +57,7 @@ fn read_rates(bytes: &[u8], n: usize, t: u32, count: usize) -> Reading
 }
 
 // The plan of a file: the head's length, the mark and version, N, T, the whole length, then the sums.
+#[tactic(auto, unfolding(crate::specs::Read::read_of, crate::specs::Read::verdict_of))]
 pub fn read(bytes: &[u8]) -> Reading
     ensures { result ≡ read_of bytes.now }
 {

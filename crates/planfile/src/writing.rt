@@ -32,6 +32,7 @@ fn high(word: u16) -> u8
 }
 
 // The mark, the version, N and T.
+#[tactic(auto, unfolding(crate::specs::Layout::padded_to, crate::specs::Write::head_of))]
 fn head(n: usize, t: u32) -> [u8; LONGEST_FILE]
     requires { (n < 256) × (t < 65536) }
     ensures { result ≡ padded_to longest_file (head_of n t) }
@@ -64,6 +65,7 @@ fn file(n: usize, t: u32, rates: &[u16]) -> [u8; LONGEST_FILE]
     bytes
 }
 
+#[tactic(auto, unfolding(crate::specs::Write::writing_of))]
 pub fn no_file(refusal: Refusal) -> Writing
     ensures { result ≡ writing_of (Refused refusal) [] }
 {
@@ -77,6 +79,7 @@ pub fn no_file(refusal: Refusal) -> Writing
 }
 
 // The file of a plan, if it is accepted.
+#[tactic(auto, using(crate::proofs::WriteLaws::file_length_lem), unfolding(crate::specs::Write::write_of, crate::specs::Write::writing_of))]
 pub fn write(n: usize, t: u32, rates: &[u16]) -> Writing
     ensures { result ≡ write_of n t rates.now }
 {
