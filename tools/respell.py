@@ -20,7 +20,7 @@ import sys
 CHAR = r"[\w'-]"
 WORD = re.compile(r"(?<![\w'-])[A-Za-z_]" + CHAR + r"*")
 HEAD = re.compile(r"^(?:(?:abbrev|unfoldable|pub|data|record)\s+)*([A-Za-z_][\w'-]*)(?:\s|$)")
-FIELD = re.compile(r"^\s+(?:pub\s+)?([A-Za-z_][\w'-]*(?:\s+[A-Za-z_][\w'-]*)*)\s+:\s")
+FIELD = re.compile(r"^\s+(?:(?:abbrev|unfoldable|pub)\s+)*([A-Za-z_][\w'-]*(?:\s+[A-Za-z_][\w'-]*)*)\s+:\s")
 # names that would fall together with another, and what they are called
 APART = {
     "board-count": "board_count_within",
@@ -55,19 +55,17 @@ def spelled(name):
 
 
 def declared(path):
-    inside = False
+    """what a file declares: at its margin, in a module within it, or as a field"""
     for line in open(path, encoding="utf-8"):
         if line.startswith(("--", "use ", "pub mod", "mod ")) or not line.strip():
             continue
-        if not line[0].isspace():
-            inside = bool(re.match(r"^(?:pub\s+)?(?:data|record)\s", line))
-            m = HEAD.match(line)
-            if m and m.group(1) not in KEYWORDS:
-                yield m.group(1)
-        elif inside:
-            m = FIELD.match(line)
-            if m:
-                yield from (n for n in m.group(1).split() if n not in KEYWORDS)
+        m = HEAD.match(line)
+        if m and m.group(1) not in KEYWORDS:
+            yield m.group(1)
+            continue
+        m = FIELD.match(line)
+        if m:
+            yield from (n for n in m.group(1).split() if n not in KEYWORDS)
 
 
 def imported_from_the_library(text):
