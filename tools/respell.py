@@ -20,29 +20,42 @@ import sys
 CHAR = r"[\w'-]"
 WORD = re.compile(r"(?<![\w'-])[A-Za-z_]" + CHAR + r"*")
 HEAD = re.compile(r"^(?:(?:abbrev|unfoldable|pub|data|record)\s+)*([A-Za-z_][\w'-]*)(?:\s|$)")
-FIELD = re.compile(r"^\s+(?:pub\s+)?([A-Za-z_][\w'-]*(?:\s+[A-Za-z_][\w'-]*)*)\s+:\s")
+FIELD = re.compile(r"^\s+(?:(?:abbrev|unfoldable|pub)\s+)*([A-Za-z_][\w'-]*(?:\s+[A-Za-z_][\w'-]*)*)\s+:\s")
 # names that would fall together with another, and what they are called
 APART = {
-    "board-count": "board_count_within",
-    "head-count": "head_count_within",
-    "same-ports": "ports_agree",
+    "arrive-verdict": "arrive_verdict_lem",
     "at-end": "at_end_lem",
+    "board-choices": "board_choices_lem",
+    "board-count": "board_count_within",
     "choice-in": "choice_in_lem",
     "columns-in": "columns_in_lem",
     "count-valid": "count_valid_lem",
+    "countAt": "count_of_flow",
+    "counts-at": "counts_at_lem",
     "file-length": "file_length_lem",
     "flow-valid": "flow_valid_lem",
+    "flows-valid": "flows_valid_lem",
     "frame-in": "frame_in_lem",
+    "has-room": "has_room_lem",
     "has-row": "has_row_lem",
+    "head-after": "head_after_lem",
+    "head-count": "head_count_within",
     "head-room": "head_room_lem",
+    "load-verdict": "load_verdict_lem",
     "lower-slots": "lower_slots_lem",
+    "no-queue": "no_queue_lem",
+    "none-waits": "none_waits_lem",
     "one-output": "one_output_lem",
     "plan-valid": "plan_valid_lem",
+    "port-valid": "port_valid_lem",
     "ports-in": "ports_in_lem",
     "ports-valid": "ports_valid_lem",
     "printout-room": "printout_room_lem",
-    "store-fits": "store_fits_lem",
+    "same-ports": "ports_agree",
     "scope-file": "scope_file_lem",
+    "step-verdict": "step_verdict_lem",
+    "store-fits": "store_fits_lem",
+    "takes-over": "takes_over_lem",
     "upper-slots": "upper_slots_lem",
 }
 KEYWORDS = {"use", "unfolding", "pub", "mod", "where", "abbrev", "unfoldable", "record", "data", "let", "in", "module", "open"}
@@ -55,19 +68,17 @@ def spelled(name):
 
 
 def declared(path):
-    inside = False
+    """what a file declares: at its margin, in a module within it, or as a field"""
     for line in open(path, encoding="utf-8"):
         if line.startswith(("--", "use ", "pub mod", "mod ")) or not line.strip():
             continue
-        if not line[0].isspace():
-            inside = bool(re.match(r"^(?:pub\s+)?(?:data|record)\s", line))
-            m = HEAD.match(line)
-            if m and m.group(1) not in KEYWORDS:
-                yield m.group(1)
-        elif inside:
-            m = FIELD.match(line)
-            if m:
-                yield from (n for n in m.group(1).split() if n not in KEYWORDS)
+        m = HEAD.match(line)
+        if m and m.group(1) not in KEYWORDS:
+            yield m.group(1)
+            continue
+        m = FIELD.match(line)
+        if m:
+            yield from (n for n in m.group(1).split() if n not in KEYWORDS)
 
 
 def imported_from_the_library(text):

@@ -33,6 +33,7 @@ fn smaller(a: usize, b: usize) -> usize
 }
 
 // Copies as much of the row as `out` takes, and answers the row's length.
+#[tactic(auto, using(planpair::proofs::RateLaws::overlaid_none, planpair::proofs::RateLaws::overlaid_next))]
 fn copy_row(row: &[u16], out: &mut [u16]) -> usize
     ensures { numbered result out.new ≡ view_record row.now out.old }
 {

@@ -66,8 +66,9 @@ pub fn arrivals(rt: &impl Print, store: &mut [u32]) {
     let q = store.len();
     let started = one_port(q, store);
     let full = fill(started, store, q);
+    let state = full.state;
     arrival(rt, q, q, full);
-    let over = fill(full, store, 1);
+    let over = state.arrive(store, 0, 0, 7);
     arrival(rt, q, q + 1, over);
 }
 

@@ -30,7 +30,7 @@ const FLOW: u32 = 1;
 
 // A port's answer. What a kind does not have is 0.
 #[repr(C)]
-#[derive(Drop)]
+#[derive(Clone, Copy)]
 pub struct PortRecord {
     pub kind: u32,
     pub other: usize,
@@ -39,21 +39,21 @@ pub struct PortRecord {
 
 // A multiplexer's choice.
 #[repr(C)]
-#[derive(Drop)]
+#[derive(Clone, Copy)]
 pub struct ChoiceRecord {
     pub kind: u32,
     pub flow: usize,
 }
 
 #[repr(C)]
-#[derive(Drop)]
+#[derive(Clone, Copy)]
 pub struct ReplyRecord {
     pub verdict: u32,
     pub state: Switch,
 }
 
 #[repr(C)]
-#[derive(Drop)]
+#[derive(Clone, Copy)]
 pub struct SlotRecord {
     pub verdict: u32,
     pub state: Switch,
@@ -62,14 +62,14 @@ pub struct SlotRecord {
 }
 
 #[repr(C)]
-#[derive(Drop)]
+#[derive(Clone, Copy)]
 pub struct ReadingRecord {
     pub verdict: u32,
     pub plan: Plan,
 }
 
 #[repr(C)]
-#[derive(Drop)]
+#[derive(Clone, Copy)]
 pub struct CoverRecord {
     pub verdict: u32,
     pub least: Stretch,
@@ -124,6 +124,7 @@ fn port_record(port: Port) -> PortRecord
     }
 }
 
+#[tactic(auto, unfolding(crate::specs::Records::records_below))]
 fn port_records(ports: [Port; MOST_PORTS]) -> [PortRecord; MOST_PORTS]
     ensures { result ≡ port_records ports }
 {

@@ -21,7 +21,7 @@ use Rattle.runs.proofs.ValidityLaws.{sound_valid}
 use Rattle.runs.proofs.FlowPromiseLaws.{EventLaw}
 use Rattle.runs.proofs.ArriveLaws.{arrive-own-keeps, arrive-other-keeps, arrive-own-law, arrive-other-law}
 use Rattle.runs.proofs.LoadLaws.{load-keeps, load-law}
-use Rattle.runs.proofs.StepLaws.{has_room}
+use Rattle.runs.proofs.StepLaws.{has_room_lem}
 use Rattle.runs.proofs.StepEventLaws.{step-own-keeps, step-other-keeps, step-own-law, step-other-law}
 use Rattle.runs.proofs.TakeoverLaws.{takeover-sound}
 use Rattle.runs.proofs.VerdictLaws.{Fine, arrive-fine, load-fine, step-fine}
@@ -69,7 +69,7 @@ call_keeps s store ok (step own) h =
       sound = step-own-keeps ok (sound_valid ok);
       ports = (step_same s store ok store).0;
       frame = (step_same s store ok store).1;
-      fine = step-fine s (sound_valid ok) (has_room (takeover-sound ok).0) (length store);
+      fine = step-fine s (sound_valid ok) (has_room_lem (takeover-sound ok).0) (length store);
       flows = step-own-law ok (sound_valid ok);
     }
 call_keeps s store ok (step (other l)) h =
@@ -77,7 +77,7 @@ call_keeps s store ok (step (other l)) h =
       sound = step-other-keeps ok (sound_valid ok) l h;
       ports = (step_same s store ok l).0;
       frame = (step_same s store ok l).1;
-      fine = step-fine s (sound_valid ok) (has_room (takeover-sound ok).0) (length l);
+      fine = step-fine s (sound_valid ok) (has_room_lem (takeover-sound ok).0) (length l);
       flows = λ i j hi hj. step-other-law ok (sound_valid ok) i j hi hj l h;
     }
 call_keeps s store ok (arrive own i j cell) h =

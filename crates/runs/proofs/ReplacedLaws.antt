@@ -25,7 +25,7 @@ use Rattle.runs.proofs.RunLaws.{happens_answered}
 use Rattle.runs.proofs.SoundLaws.{Sound}
 use Rattle.runs.proofs.ValidityLaws.{sound_valid}
 use Rattle.runs.proofs.LoadLaws.{sound-load}
-use Rattle.runs.proofs.StepLaws.{has_room}
+use Rattle.runs.proofs.StepLaws.{has_room_lem}
 use Rattle.runs.proofs.TakeoverLaws.{takeover-sound}
 use Rattle.runs.proofs.CallLaws.{call_keeps, allowed}
 
@@ -73,7 +73,7 @@ module _ (n t : ℕ) (rates : List ℕ) where
 
     step-verdict : (len : ℕ) → step_verdict (with s) len ≡ step_verdict s len
     unfolding step_verdict
-    step-verdict len = rw (sound_valid ok, sound_valid sound-with, has_room (takeover-sound ok).0, has_room (takeover-sound sound-with).0) refl
+    step-verdict len = rw (sound_valid ok, sound_valid sound-with, has_room_lem (takeover-sound ok).0, has_room_lem (takeover-sound sound-with).0) refl
 
     step-with : (lent : List ℕ) → ((step_of (with s) lent).verdict ≡ Accepted → s.slot ≡ 0 → ⊥) → step_of (with s) lent ≡ slotWith (step_of s lent)
     unfolding step_of after_slot board_choices head_choices
@@ -142,8 +142,9 @@ module _ (n t : ℕ) (rates : List ℕ) where
   unseen s store [] ok can h w = record { events = refl; state = refl; left = refl; can = can }
   unseen s store (e ∷ es) ok can h w =
       let one = beside ok can e h.0 w.0 w.1 in
+      let without = answered s store (call_of e) in
       let follow = subst₂ (λ (u : Switch) (l : List ℕ). Follow u l es) one.state one.left h.1 in
-      let rest = unseen _ _ es one.sound one.can follow (subst (λ (u : Switch). StillWaits u es) one.state w.2) in
+      let rest = unseen (state_after without) (store_after store without) es one.sound one.can follow (subst (λ (u : Switch). StillWaits u es) one.state w.2) in
       record {
         events = rw (← one.same) (ap (λ (l : List Event). e ∷ l) rest.events);
         state = ap (λ (u : Switch). final_state u es) one.state ∙ rest.state;

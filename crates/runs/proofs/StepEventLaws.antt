@@ -29,7 +29,7 @@ use Rattle.runs.specs.Flow.{collect, total, left, moved, left_in, moved_in}
 use Rattle.runs.proofs.LedgerLaws.{Ledger}
 use Rattle.runs.proofs.SoundLaws.{Sound, board_near, head_near}
 use Rattle.runs.proofs.SlotLaws.{slot-room, slot-cells, slot-crossing, slot-empties, slot-share, slot-near}
-use Rattle.runs.proofs.StepLaws.{flow-slot, slot-sound, has_room}
+use Rattle.runs.proofs.StepLaws.{flow-slot, slot-sound, has_room_lem}
 use Rattle.runs.proofs.TakeoverLaws.{OtherPlan, takeover-sound}
 use Rattle.runs.proofs.FlowPromiseLaws.{EventLaw}
 use Rattle.runs.proofs.QuietLaws.{refused_law, refused_step}
@@ -87,7 +87,7 @@ other_plans running waiting waits l =
 module _ {s : Switch} {store : List ℕ} (ok : Sound s store) (valid : valid_of s ≡ true) where
   accepted-own : step_verdict s (length store) ≡ Accepted
   unfolding step_verdict store_fits
-  accepted-own = simp (valid, eq-eqb (length store) _ ok.store_size, has_room (takeover-sound ok).0)
+  accepted-own = simp (valid, eq-eqb (length store) _ ok.store_size, has_room_lem (takeover-sound ok).0)
 
   refused-other : (l : List ℕ) → OtherLength l store → step_verdict s (length l) ≡ Accepted → ⊥
   unfolding step_verdict store_fits

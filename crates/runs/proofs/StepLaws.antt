@@ -113,8 +113,8 @@ module _ {u : Switch} {store : List ℕ} (ok : Sound u store) where
       let close : board_count u i j * T < (head_count u i j + 1) * T = omega (arith, board-may i j hi hj c, (head_near ok i j hi hj).late) in
       omega (arith, lt_of_mul-lt-mul_right T {m = board_count u i j} {n = head_count u i j + 1} close, ok.balanced i j hi hj)
 
-  pub has_room : has_room u ≡ true
-  has_room = room-enough n (board_choices u) u.fabric.queues u.fabric.crosspoints (λ i j hi e. room-there i j hi (board-names i j hi e) e)
+  pub has_room_lem : has_room u ≡ true
+  has_room_lem = room-enough n (board_choices u) u.fabric.queues u.fabric.crosspoints (λ i j hi e. room-there i j hi (board-names i j hi e) e)
 
   -- what a flow's queue and crosspoint are after the moves, and its crosspoint after the sends
   abbrev moves : Moves

@@ -6,6 +6,7 @@ use mathlib.Core.Bool.{Bool, true, false, cond}
 use mathlib.Core.List.{List, []}
 use native.Mathlib.Omega.{arith}
 use lib.ListN.{length, take, replicate}
+use lib.Seq.{length-take-le}
 use Rattle.refusal.specs.Outcome.{Outcome, outcome}
 use Rattle.refusal.specs.declared.Refusal.{Refusal}
 use Rattle.refusal.specs.declared.Refusal.TheVariants.{PortsOutOfRange}
@@ -32,6 +33,10 @@ lent_within n = go (ports_in_range n) refl
     go : (is : Bool) → ports_in_range n ≡ is → lent_count n ≤ most_flows
     go true e = rw e (square_small n (ports_range n e).1)
     go false e = rw e (omega arith)
+
+-- and the part of an array of zeros that is lent has that many
+pub lent_length : (n : ℕ) {count : ℕ} → count ≡ lent_count n → length (take count (replicate {A = ℕ} most_flows 0)) ≡ count
+lent_length n e = length-take-le _ _ (rw e (lent_within n))
 
 -- what the reader answers for a part of an array of zeros decides
 module _ (n t : ℕ) (text : List ℕ) (verdict : Verdict) (list : List ℕ) (read : outcome verdict list ≡ read_text_of n t text (take (lent_count n) (replicate most_flows 0))) where

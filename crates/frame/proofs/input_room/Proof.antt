@@ -1,9 +1,0 @@
-use mathlib.Core.Path.{refl}
-use Rattle.frame.proofs.input_room.Statement.{statement}
-use Rattle.frame.proofs.input_room.Tie as tie
-
-returns : tie.Need-returns
-returns c = refl
-
-pub input-room-spec : {M : Type 1} → statement M
-input-room-spec = tie.close (tie.spec returns)

@@ -1,0 +1,6 @@
+use Rattle.std.proofs.Common.{◌≡◌}
+use Rattle.records.specs.Records.{records_below}
+use Rattle.records.proofs.port_records.Given as goal
+
+abbrev pub invariant-loop-p : goal.invariant-loop-p
+invariant-loop-p l = l.records ≡ records_below l.ports l.p
