@@ -22,43 +22,43 @@ module _ (text : ℕ → List ℕ) where
   unfolding text_below
   below_next p = rw (add-one p) refl
 
-  pub below-nothing : text_below text 0 ≡ []
+  pub below_nothing : text_below text 0 ≡ []
   unfolding text_below
-  below-nothing = refl
+  below_nothing = refl
 
   pub below_last : (n : ℕ) → text_below text (suc n) ≡ text_below text n ++ text n
   unfolding text_below
   below_last n = refl
 
   -- those below m, and n more
-  pub below-join : (m n : ℕ) → text_below text (m + n) ≡ text_below text m ++ text_below (λ k. text (m + k)) n
+  pub below_join : (m n : ℕ) → text_below text (m + n) ≡ text_below text m ++ text_below (λ k. text (m + k)) n
   unfolding text_below
-  below-join m zero = rw (add-zero m, append-nil) refl
-  below-join m (suc n) = rw (add-suc m n, below-join m n, append_assoc) refl
+  below_join m zero = rw (add-zero m, append-nil) refl
+  below_join m (suc n) = rw (add-suc m n, below_join m n, append_assoc) refl
 
-  below-longer : (n : ℕ) → length (text_below text (suc n)) ≡ length (text_below text n) + length (text n)
+  below_longer : (n : ℕ) → length (text_below text (suc n)) ≡ length (text_below text n) + length (text n)
   unfolding text_below
-  below-longer n = length-append (text_below text n) (text n)
+  below_longer n = length-append (text_below text n) (text n)
 
   -- those below p, and that of p, are within those below a larger number
-  below-within : (p n : ℕ) → p < n → length (text_below text p) + length (text p) ≤ length (text_below text n)
-  below-within p zero l = absurd (omega arith)
-  below-within p (suc n) l =
+  below_within : (p n : ℕ) → p < n → length (text_below text p) + length (text p) ≤ length (text_below text n)
+  below_within p zero l = absurd (omega arith)
+  below_within p (suc n) l =
       ⊎_elim
-      (λ (b : p < n). omega (arith, below-longer n, below-within p n b))
-      (λ (e : p ≡ n). rw e (omega (arith, below-longer n)))
+      (λ (b : p < n). omega (arith, below_longer n, below_within p n b))
+      (λ (e : p ≡ n). rw e (omega (arith, below_longer n)))
       (below_or_last p n l)
 
   -- so where there is room for all of them, there is room for the next one
-  pub below-room : {before after : List ℕ} {start at p n : ℕ} → p < n → HasRoom before start (text_below text n) → length after ≡ length before
+  pub below_room : {before after : List ℕ} {start at p n : ℕ} → p < n → HasRoom before start (text_below text n) → length after ≡ length before
       → Written before start (text_below text p) after at → HasRoom after at (text p)
-  below-room {p = p} {n = n} l room same w = omega (arith, w.place, below-within p n l)
+  below_room {p = p} {n = n} l room same w = omega (arith, w.place, below_within p n l)
 
   -- texts of at most k bytes
-  pub below-short : (k n : ℕ) → ((p : ℕ) → p < n → length (text p) ≤ k) → length (text_below text n) ≤ n * k
+  pub below_short : (k n : ℕ) → ((p : ℕ) → p < n → length (text p) ≤ k) → length (text_below text n) ≤ n * k
   unfolding text_below
-  below-short k zero h = omega arith
-  below-short k (suc n) h = omega (arith, below-longer n, below-short k n (λ p l. h p (omega arith)), h n (omega arith))
+  below_short k zero h = omega arith
+  below_short k (suc n) h = omega (arith, below_longer n, below_short k n (λ p l. h p (omega arith)), h n (omega arith))
 
 -- the first one, and the others
 pub below_first : (text : ℕ → List ℕ) (n : ℕ) → text_below text (suc n) ≡ text 0 ++ text_below (λ k. text (suc k)) n
@@ -74,8 +74,8 @@ below_same text text' (suc n) h = rw (below_same text text' n (λ p l. h p (omeg
 
 -- one text more behind those below p: none, where it is empty, and else a line that was written
 module _ (text : ℕ → List ℕ) {before mid : List ℕ} {start at p : ℕ} (w : Written before start (text_below text p) mid at) where
-  pub below-skip : text p ≡ [] → Written before start (text_below text (p + 1)) mid at
-  below-skip e =
+  pub below_skip : text p ≡ [] → Written before start (text_below text (p + 1)) mid at
+  below_skip e =
       written_as w (sym (append-nil (text_below text p)) ∙ ap (λ (l : List ℕ). text_below text p ++ l) (sym e) ∙ below_next text p)
 
   pub below_step : {after line : List ℕ} {r : ℕ} → text p ≡ line → Written mid at line after r → Written before start (text_below text (p + 1)) after r

@@ -24,8 +24,8 @@ room_as {buffer} {at = at} room e = subst (HasRoom buffer at) e room
 
 -- Room for one text and another behind it.
 module _ {buffer : List ℕ} {at : ℕ} (x y : List ℕ) (room : HasRoom buffer at (x ++ y)) where
-  pub room-first : HasRoom buffer at x
-  room-first = omega (arith, length-append x y)
+  pub room_first : HasRoom buffer at x
+  room_first = omega (arith, length-append x y)
 
   pub room_next : {after : List ℕ} {r : ℕ} → Written buffer at x after r → length after ≡ length buffer → HasRoom after r y
   room_next w same = omega (arith, w.place, length-append x y)
@@ -58,8 +58,8 @@ begun_start buffer start e = record { begin = []; written = nothing_written buff
 
 module _ {before text rest after : List ℕ} {start at : ℕ} (b : Begun before start text rest after at) where
   -- a line of the rest is written
-  pub begun-next : {line left next : List ℕ} {r : ℕ} → rest ≡ line ++ left → Written after at line next r → Begun before start text left next r
-  begun-next {line} {left} e w =
+  pub begun_next : {line left next : List ℕ} {r : ℕ} → rest ≡ line ++ left → Written after at line next r → Begun before start text left next r
+  begun_next {line} {left} e w =
       record {
         begin = b.begin ++ line;
         written = written_on b.written w;
@@ -67,12 +67,12 @@ module _ {before text rest after : List ℕ} {start at : ℕ} (b : Begun before 
       }
 
   -- all of the rest is written
-  pub begun-last : {last next : List ℕ} {r : ℕ} → rest ≡ last → Written after at last next r → Written before start text next r
-  begun-last e w = written_as (written_on b.written w) (ap (λ (l : List ℕ). b.begin ++ l) (sym e) ∙ b.whole)
+  pub begun_last : {last next : List ℕ} {r : ℕ} → rest ≡ last → Written after at last next r → Written before start text next r
+  begun_last e w = written_as (written_on b.written w) (ap (λ (l : List ℕ). b.begin ++ l) (sym e) ∙ b.whole)
 
   -- where there is room for the whole, there is room for the rest
-  pub begun-room : HasRoom before start text → length after ≡ length before → HasRoom after at rest
-  begun-room room same = omega (arith, b.written.place, length-append b.begin rest, ap length b.whole)
+  pub begun_room : HasRoom before start text → length after ≡ length before → HasRoom after at rest
+  begun_room room same = omega (arith, b.written.place, length-append b.begin rest, ap length b.whole)
 
 pub refusal_short : (v : Verdict) → length (refusal_line_of v) ≤ refusal_room
 unfolding refusal_line_of

@@ -9,7 +9,7 @@ use Rattle.fabric.specs.Answer.{answer_of, all_idle}
 use Rattle.side.specs.Choices.{choice_at, ChoosesPort}
 use Rattle.fabric.specs.declared.flow.Port.{Port}
 use Rattle.side.proofs.NameLaws.{choices_name}
-use Rattle.fabric.proofs.NameLaws.{NamesPort, idle_names, moves-name, sends-name}
+use Rattle.fabric.proofs.NameLaws.{NamesPort, idle_names, moves_name, sends_name}
 use Rattle.crossbar.specs.Takeover.{takeover_of}
 use Rattle.crossbar.specs.Step.{board_choices, head_choices, slot_moves, slot_sends, step_verdict, step_of}
 use Rattle.crossbar.specs.declared.state.Switch.{Switch}
@@ -28,16 +28,16 @@ replied Accepted ports p h = h
 replied (Refused r) ports p h = idle_names p
 
 module _ (s : Switch) (store : List ℕ) (p : ℕ) where
-  pub step-moves-name : NamesPort (answer_of (step_of s store).moves p)
+  pub step_moves_name : NamesPort (answer_of (step_of s store).moves p)
   unfolding step_of
-  step-moves-name =
+  step_moves_name =
       let u = takeover_of s in
       replied (step_verdict s (length store)) (slot_moves u store).ports p
-      (moves-name (board_choices u) (boards_choose u) u.running.ports u.depth store u.fabric.queues u.fabric.crosspoints u.running.ports p)
+      (moves_name (board_choices u) (boards_choose u) u.running.ports u.depth store u.fabric.queues u.fabric.crosspoints u.running.ports p)
 
-  pub step-sends-name : NamesPort (answer_of (step_of s store).sends p)
+  pub step_sends_name : NamesPort (answer_of (step_of s store).sends p)
   unfolding step_of
-  step-sends-name =
+  step_sends_name =
       let u = takeover_of s in
       replied (step_verdict s (length store)) (slot_sends u store).ports p
-      (sends-name (head_choices u) (heads_choose u) u.running.ports (slot_moves u store).crosspoints u.running.ports p)
+      (sends_name (head_choices u) (heads_choose u) u.running.ports (slot_moves u store).crosspoints u.running.ports p)

@@ -55,18 +55,18 @@ arrives s len i j can =
 -- The answer and the store, as the code leaves them, by its verdict v.
 module _ (s : Switch) (store : List ℕ) (i j cell : ℕ) {v : Verdict} (is : v ≡ arrive_verdict s (length store) i j) where
   -- `next` is the place of the ring that the cell goes to
-  pub arrive-accepted : {next : ℕ} → v ≡ Accepted →
+  pub arrive_accepted : {next : ℕ} → v ≡ Accepted →
       let k = flow_of s.running.ports i j in
       let q = queue_at s k in
       next ≡ (q.place + q.count) % s.depth →
       Arrives s store i j cell (record { verdict = v; state = with_queues s (set s.fabric.queues k (longer q)) }) (set store (k * s.depth + next) cell)
   unfolding arrive_of
-  arrive-accepted told place = rw (← is, told, place) refl
+  arrive_accepted told place = rw (← is, told, place) refl
 
   -- a refused arrival leaves state and store as they were
-  pub arrive-refused : {r : Refusal} → v ≡ Refused r → Arrives s store i j cell (record { verdict = v; state = s }) store
+  pub arrive_refused : {r : Refusal} → v ≡ Refused r → Arrives s store i j cell (record { verdict = v; state = s }) store
   unfolding arrive_of
-  arrive-refused told = rw (← is, told) refl
+  arrive_refused told = rw (← is, told) refl
 
 -- the flow has a number in the lists, and its next cell a place in the store
 pub record Placed (s : Switch) (len i j : ℕ) : Type 0 where

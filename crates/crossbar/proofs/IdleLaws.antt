@@ -13,14 +13,14 @@ use Rattle.plan.specs.Desk.{row_of}
 use Rattle.multiplexer.specs.Window.{column_of}
 use Rattle.multiplexer.specs.declared.Choice.{Choice}
 use Rattle.multiplexer.specs.declared.Choice.TheVariants as choice
-use Rattle.multiplexer.proofs.ChoiceLaws.{idle-none}
+use Rattle.multiplexer.proofs.ChoiceLaws.{idle_none}
 use Rattle.multiplexer.proofs.PortLaws.{row_length, column_length}
 use Rattle.fabric.specs.Answer.{answer_of}
 use Rattle.side.specs.Choices.{choice_at, CanChoose}
 use Rattle.fabric.specs.declared.flow.Answer.TheVariants.{Idle}
-use Rattle.side.proofs.ChoiceLaws.{choices-at, choices-named}
-use Rattle.fabric.proofs.MoveLaws.{move_serves, moves-served, moves-length}
-use Rattle.fabric.proofs.SendLaws.{send_serves, sends-served}
+use Rattle.side.proofs.ChoiceLaws.{choices_at, choices_named}
+use Rattle.fabric.proofs.MoveLaws.{move_serves, moves_served, moves_length}
+use Rattle.fabric.proofs.SendLaws.{send_serves, sends_served}
 use Rattle.planpair.specs.Rates.{plan_rates}
 use Rattle.crossbar.specs.Valid.{valid_of, IsValid}
 use Rattle.crossbar.specs.Takeover.{takeover_of}
@@ -30,14 +30,14 @@ use Rattle.crossbar.specs.declared.state.SlotReply.{SlotReply}
 use Rattle.crossbar.proofs.ValidLaws.{valid}
 use Rattle.crossbar.proofs.OwnedLaws.{Sized}
 use Rattle.crossbar.proofs.TakeoverLaws.{Ruled, ruled}
-use Rattle.crossbar.proofs.StepLaws.{ruling-part}
+use Rattle.crossbar.proofs.StepLaws.{ruling_part}
 
 module _
     (u : Switch) (store : List ℕ)
     (few : u.running.ports ≤ most_ports)
     (square : length (plan_rates u.running) ≡ u.running.ports * u.running.ports)
     (queues-full : length u.fabric.queues ≡ most_flows)
-    (points-full : length u.fabric.crosspoints ≡ most_flows)
+    (points_full : length u.fabric.crosspoints ≡ most_flows)
   where
     abbrev n : ℕ
     n = u.running.ports
@@ -45,13 +45,13 @@ module _
     rows_long : (i : ℕ) → i < n → length (row_of (plan_rates u.running) n i) ≡ n
     rows_long i l = row_length (plan_rates u.running) n i square l
 
-    boards-can : CanChoose n (board_choices u)
+    boards_can : CanChoose n (board_choices u)
     unfolding board_choices
-    boards-can = choices-named (row_of (plan_rates u.running) n) u.fabric.boards u.running.frame u.slot n few rows_long
+    boards_can = choices_named (row_of (plan_rates u.running) n) u.fabric.boards u.running.frame u.slot n few rows_long
 
-    heads-can : CanChoose n (head_choices u)
+    heads_can : CanChoose n (head_choices u)
     unfolding head_choices
-    heads-can = choices-named (column_of (plan_rates u.running) n) u.fabric.heads u.running.frame u.slot n few (λ j _. column_length (plan_rates u.running) n j)
+    heads_can = choices_named (column_of (plan_rates u.running) n) u.fabric.heads u.running.frame u.slot n few (λ j _. column_length (plan_rates u.running) n j)
 
     board_idle : (i : ℕ) → i < n → answer_of (slot_moves u store).ports i ≡ Idle → choice_at (board_choices u) i ≡ choice.Idle
     board_idle i l h = go (choice_at (board_choices u) i) refl
@@ -59,10 +59,10 @@ module _
         go : (c : Choice) → choice_at (board_choices u) i ≡ c → choice_at (board_choices u) i ≡ choice.Idle
         go choice.Idle e = e
         go (choice.Flow j) e =
-            absurd (move_serves _ _ _ _ _ (sym (moves-served n u.depth store (board_choices u) u.fabric.queues u.fabric.crosspoints boards-can queues-full points-full i j l e).answer ∙ h))
+            absurd (move_serves _ _ _ _ _ (sym (moves_served n u.depth store (board_choices u) u.fabric.queues u.fabric.crosspoints boards_can queues-full points_full i j l e).answer ∙ h))
 
-    filled-full : length (slot_moves u store).crosspoints ≡ most_flows
-    filled-full = (moves-length n u.depth store (board_choices u) u.fabric.queues u.fabric.crosspoints n).points_kept ∙ points-full
+    filled_full : length (slot_moves u store).crosspoints ≡ most_flows
+    filled_full = (moves_length n u.depth store (board_choices u) u.fabric.queues u.fabric.crosspoints n).points_kept ∙ points_full
 
     head_idle : (j : ℕ) → j < n → answer_of (slot_sends u store).ports j ≡ Idle → choice_at (head_choices u) j ≡ choice.Idle
     head_idle j l h = go (choice_at (head_choices u) j) refl
@@ -70,17 +70,17 @@ module _
         go : (c : Choice) → choice_at (head_choices u) j ≡ c → choice_at (head_choices u) j ≡ choice.Idle
         go choice.Idle e = e
         go (choice.Flow i) e =
-            absurd (send_serves _ _ (sym (sends-served n (head_choices u) (slot_moves u store).crosspoints heads-can filled-full i j l e).answer ∙ h))
+            absurd (send_serves _ _ (sym (sends_served n (head_choices u) (slot_moves u store).crosspoints heads_can filled_full i j l e).answer ∙ h))
 
-    slot-idles : IdlesOnly u (slot_reply u store)
+    slot_idles : IdlesOnly u (slot_reply u store)
     unfolding board_choices head_choices
-    slot-idles =
+    slot_idles =
         record {
           boards = λ i f hi hf h.
-              idle-none _ _ _ _ (sym (choices-at (row_of (plan_rates u.running) n) u.fabric.boards u.running.frame u.slot n i hi few) ∙ board_idle i hi h) f
+              idle_none _ _ _ _ (sym (choices_at (row_of (plan_rates u.running) n) u.fabric.boards u.running.frame u.slot n i hi few) ∙ board_idle i hi h) f
               (omega (arith, rows_long i hi, few));
           heads = λ j f hj hf h.
-              idle-none _ _ _ _ (sym (choices-at (column_of (plan_rates u.running) n) u.fabric.heads u.running.frame u.slot n j hj few) ∙ head_idle j hj h) f
+              idle_none _ _ _ _ (sym (choices_at (column_of (plan_rates u.running) n) u.fabric.heads u.running.frame u.slot n j hj few) ∙ head_idle j hj h) f
               (omega (arith, column_length (plan_rates u.running) n j, few));
         }
 
@@ -89,9 +89,9 @@ pub idles_only : (s : Switch) (store : List ℕ) (r : SlotReply) → Sized s →
 unfolding step_of step_verdict
 idles_only s store r size is accepted =
     subst (IdlesOnly (takeover_of s)) (sym done)
-    (slot-idles (takeover_of s) store
+    (slot_idles (takeover_of s) store
     (rw after.ports rules.running.few_ports)
-    (ap length after.rates ∙ ruling-part s size s.running.ports rules.running.few_ports ∙ (rw after.ports refl))
+    (ap length after.rates ∙ ruling_part s size s.running.ports rules.running.few_ports ∙ (rw after.ports refl))
     (rw after.fabric size.queues) (rw after.fabric size.points))
   where
     verdict : step_verdict s (length store) ≡ Accepted

@@ -57,9 +57,9 @@ shorter false Accepted false true x y r h = absurd (h refl)
 shorter false Accepted false false x y r h = refl
 
 module _ (s : Switch) (n t : ℕ) (rates : List ℕ) where
-  answered-before : (r : Refusal) → (former_verdict r s n t rates ≡ Refused r → ⊥) → load_of s n t rates ≡ former_load r s n t rates
+  answered_before : (r : Refusal) → (former_verdict r s n t rates ≡ Refused r → ⊥) → load_of s n t rates ≡ former_load r s n t rates
   unfolding load_of load_verdict former_load former_verdict
-  answered-before r h =
+  answered_before r h =
       let other = not (eqb n s.running.ports && eqb t s.running.frame) in
       ap (λ (v : Verdict). record { verdict = v; state = if_accepted v (with_waiting s n t rates) s })
       (shorter (not (valid_of s)) (accept_of n t rates) other (has_waiting s) StateInvalid PlanMismatch r h)
@@ -67,8 +67,8 @@ module _ (s : Switch) (n t : ℕ) (rates : List ℕ) where
   pub as_before : AsBefore s n t rates
   as_before =
       record {
-        accepted = λ r e. answered-before r (λ told. refused_not_accepted r (sym told ∙ e));
-        refused = λ r q e other. answered-before r (λ told. let same : Refused q ≡ Refused r = sym e ∙ told in other cc);
+        accepted = λ r e. answered_before r (λ told. refused_not_accepted r (sym told ∙ e));
+        refused = λ r q e other. answered_before r (λ told. let same : Refused q ≡ Refused r = sym e ∙ told in other cc);
       }
 
 -- "the later plan replaces the waiting one": of two plans laid into a state the second stands, and no trace of the first, also
@@ -100,12 +100,12 @@ load_state s n t rates e = rw e refl
 
 -- The answer, as the code puts it together from its verdict v.
 module _ (s : Switch) (n t : ℕ) (rates : List ℕ) {v : Verdict} (is : v ≡ load_verdict s n t rates) where
-  pub load-accepted : {laid : List ℕ} → v ≡ Accepted → laid ≡ overlaid s.waiting.rates rates (n * n)
+  pub load_accepted : {laid : List ℕ} → v ≡ Accepted → laid ≡ overlaid s.waiting.rates rates (n * n)
       → ◌≡◌ {A = Reply} (record { verdict = v; state = with_plans s s.running (record { ports = n; frame = t; rates = laid }) 1 }) (load_of s n t rates)
   unfolding load_of
-  load-accepted told laid = rw (laid, ← is, told) refl
+  load_accepted told laid = rw (laid, ← is, told) refl
 
   -- a refused load leaves the state as it was
-  pub load-refused : {r : Refusal} → v ≡ Refused r → ◌≡◌ {A = Reply} (record { verdict = v; state = s }) (load_of s n t rates)
+  pub load_refused : {r : Refusal} → v ≡ Refused r → ◌≡◌ {A = Reply} (record { verdict = v; state = s }) (load_of s n t rates)
   unfolding load_of
-  load-refused told = rw (← is, told) refl
+  load_refused told = rw (← is, told) refl

@@ -6,7 +6,7 @@ use mir.Val.{Val}
 use denote.Laws.{Is}
 use denote.Struct.Declared.{row}
 use Rattle.plan.specs.Range.{most_flows}
-use Rattle.planpair.proofs.OwnedLaws.{rates-full}
+use Rattle.planpair.proofs.OwnedLaws.{rates_full}
 use Rattle.crossbar.specs.declared.state.Switch.{Switch}
 use Rattle.crossbar.specs.contracts.state.Switch as switch
 
@@ -21,8 +21,8 @@ pub record Sized (s : Switch) : Type 0 where
 pub owned_sized : (s : Switch) (vs : List Val) → Is (row switch.the_type) s vs → Sized s
 owned_sized s vs owned =
     record {
-      running = rates-full s.running _ owned.1.1.0;
-      waiting = rates-full s.waiting _ owned.1.1.1.0;
+      running = rates_full s.running _ owned.1.1.0;
+      waiting = rates_full s.waiting _ owned.1.1.1.0;
       queues = owned.1.1.1.1.1.1.1.0.1.1.0.1.0.1;
       points = owned.1.1.1.1.1.1.1.0.1.1.1.0.1.0.1;
     }

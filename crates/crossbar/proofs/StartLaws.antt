@@ -54,10 +54,10 @@ module _ (n t : ℕ) (rates : List ℕ) (depth : ℕ) (store : List ℕ) {v : Ve
   start_accepted told laid made = rw (made, laid, ← is, told) refl
 
   -- the state of a refused start is all 0
-  pub start-refused : {r : Refusal} {none : Plan} → v ≡ Refused r → none ≡ no_plan → fresh ≡ fresh_with none 0
+  pub start_refused : {r : Refusal} {none : Plan} → v ≡ Refused r → none ≡ no_plan → fresh ≡ fresh_with none 0
       → ◌≡◌ {A = Reply} (record { verdict = v; state = fresh }) (start_of n t rates depth store)
   unfolding start_of
-  start-refused told none made = rw (made, none, ← is, told) refl
+  start_refused told none made = rw (made, none, ← is, told) refl
 
 -- the rates of a started plan are the given list
 pub started_rates : (n t : ℕ) (rates : List ℕ) → IsPlan n t rates → plan_rates (plan_of n t rates) ≡ rates

@@ -31,8 +31,8 @@ use Rattle.fabric.specs.Slot.{run_of}
 use Rattle.side.specs.declared.choices.Side.{Side}
 use Rattle.fabric.specs.declared.slot.AfterSlot.{AfterSlot}
 use Rattle.side.proofs.ChoiceLaws.{served_ext, served_counts, desk_named}
-use Rattle.side.proofs.ColumnLaws.{columns, columns-length, desk-columns}
-use Rattle.fabric.proofs.MoveLaws.{room-none}
+use Rattle.side.proofs.ColumnLaws.{columns, columns_length, desk_columns}
+use Rattle.fabric.proofs.MoveLaws.{room_none}
 use Rattle.fabric.proofs.SlotLaws.{run_none, none_chooses}
 use Rattle.crossbar.specs.State.{store_fits}
 use Rattle.crossbar.specs.Valid.{valid_of, IsValid}
@@ -52,18 +52,18 @@ abbrev pub ruling : Switch → ℕ → List ℕ
 ruling s n = cond (takes_over s) (take (n * n) s.waiting.rates) (take (n * n) s.running.rates)
 
 module _ (s : Switch) (size : Sized s) (n : ℕ) (few : n ≤ most_ports) where
-  pub running-part : length (take (n * n) s.running.rates) ≡ n * n
-  running-part = length-take-le (n * n) s.running.rates (omega (arith, size.running, square_small n few))
+  pub running_part : length (take (n * n) s.running.rates) ≡ n * n
+  running_part = length-take-le (n * n) s.running.rates (omega (arith, size.running, square_small n few))
 
-  pub waiting-part : length (take (n * n) s.waiting.rates) ≡ n * n
-  waiting-part = length-take-le (n * n) s.waiting.rates (omega (arith, size.waiting, square_small n few))
+  pub waiting_part : length (take (n * n) s.waiting.rates) ≡ n * n
+  waiting_part = length-take-le (n * n) s.waiting.rates (omega (arith, size.waiting, square_small n few))
 
-  pub ruling-part : length (ruling s n) ≡ n * n
-  ruling-part = go (takes_over s)
+  pub ruling_part : length (ruling s n) ≡ n * n
+  ruling_part = go (takes_over s)
     where
       go : (b : Bool) → length (cond b (take (n * n) s.waiting.rates) (take (n * n) s.running.rates)) ≡ n * n
-      go true = waiting-part
-      go false = running-part
+      go true = waiting_part
+      go false = running_part
 
 -- its columns, as the rows of an array
 abbrev pub columns_in : Switch → ℕ → List ℕ → List ℕ
@@ -87,47 +87,47 @@ module _ (s : Switch) (size : Sized s) (v : IsValid s) (store : List ℕ) (board
   few = v.running.few_ports
 
   rows : (p : ℕ) → p < n → length (row_of (ruling s n) n p) ≡ n
-  rows p l = row_length (ruling s n) n p (ruling-part s size n few) l
+  rows p l = row_length (ruling s n) n p (ruling_part s size n few) l
 
   module _ (by-desk : ServedAs (λ p. desk_of (take (n * n) s.running.rates) (take (n * n) s.waiting.rates) n p (takes_over s)) s.fabric.boards T s.slot n boards) where
     by_rows : ServedAs (row_of (ruling s n) n) s.fabric.boards T s.slot n boards
     by_rows =
         served_ext _ _ _ _ _ _ _
-        (λ p l. desk_row _ _ n p (takes_over s) few l (running-part s size n few) (waiting-part s size n few))
+        (λ p l. desk_row _ _ n p (takes_over s) few l (running_part s size n few) (waiting_part s size n few))
         by-desk
 
-    boards-are : choices_in boards.turns ≡ board_choices u
+    boards_are : choices_in boards.turns ≡ board_choices u
     unfolding board_choices
-    boards-are = by_rows.choices ∙ (rw (r.rates, r.ports, r.frame, r.slot, r.fabric) refl)
+    boards_are = by_rows.choices ∙ (rw (r.rates, r.ports, r.frame, r.slot, r.fabric) refl)
 
     -- number 13 is judged of the plan after a takeover
-    pub room-is : room_for_all n (choices_in boards.turns) s.fabric.queues s.fabric.crosspoints ≡ has_room u
-    room-is = rw (boards-are, r.ports, r.fabric) refl
+    pub room_is : room_for_all n (choices_in boards.turns) s.fabric.queues s.fabric.crosspoints ≡ has_room u
+    room_is = rw (boards_are, r.ports, r.fabric) refl
 
     module _ (zeros : List ℕ) (full : length zeros ≡ most_flows)
         (by-columns : ServedAs (λ p. desk_of (columns (ruling s n) n zeros) (columns (ruling s n) n zeros) n p false) s.fabric.heads T s.slot n heads)
       where
         by_heads : ServedAs (column_of (ruling s n) n) s.fabric.heads T s.slot n heads
-        by_heads = served_ext _ _ _ _ _ _ _ (λ p l. desk-columns (ruling s n) n zeros few full p l) by-columns
+        by_heads = served_ext _ _ _ _ _ _ _ (λ p l. desk_columns (ruling s n) n zeros few full p l) by-columns
 
-        heads-are : choices_in heads.turns ≡ head_choices u
+        heads_are : choices_in heads.turns ≡ head_choices u
         unfolding head_choices
-        heads-are = by_heads.choices ∙ (rw (r.rates, r.ports, r.frame, r.slot, r.fabric) refl)
+        heads_are = by_heads.choices ∙ (rw (r.rates, r.ports, r.frame, r.slot, r.fabric) refl)
 
-        board-counts : ports_below boards.ports s.fabric.boards n ≡ counts_of n (eqb (s.slot + 1) T) (board_choices u) s.fabric.boards n
-        board-counts =
+        board_counts : ports_below boards.ports s.fabric.boards n ≡ counts_of n (eqb (s.slot + 1) T) (board_choices u) s.fabric.boards n
+        board_counts =
             served_counts _ _ T s.slot n boards few rows by_rows
-            ∙ ap (λ (c : List Choice). counts_of n (eqb (s.slot + 1) T) c s.fabric.boards n) (sym by_rows.choices ∙ boards-are)
+            ∙ ap (λ (c : List Choice). counts_of n (eqb (s.slot + 1) T) c s.fabric.boards n) (sym by_rows.choices ∙ boards_are)
 
-        head-counts : ports_below heads.ports s.fabric.heads n ≡ counts_of n (eqb (s.slot + 1) T) (head_choices u) s.fabric.heads n
-        head-counts =
+        head_counts : ports_below heads.ports s.fabric.heads n ≡ counts_of n (eqb (s.slot + 1) T) (head_choices u) s.fabric.heads n
+        head_counts =
             served_counts _ _ T s.slot n heads few (λ p l. column_length (ruling s n) n p) by_heads
-            ∙ ap (λ (c : List Choice). counts_of n (eqb (s.slot + 1) T) c s.fabric.heads n) (sym by_heads.choices ∙ heads-are)
+            ∙ ap (λ (c : List Choice). counts_of n (eqb (s.slot + 1) T) c s.fabric.heads n) (sym by_heads.choices ∙ heads_are)
 
         pub ran : run_of n s.depth store boards heads s.fabric
             ≡ record { fabric = (after_slot u store).fabric; moves = (slot_moves u store).ports; sends = (slot_sends u store).ports }
         unfolding after_slot
-        ran = rw (boards-are, heads-are, board-counts, head-counts, r.ports, r.frame, r.depth, r.slot, r.fabric) refl
+        ran = rw (boards_are, heads_are, board_counts, head_counts, r.ports, r.frame, r.depth, r.slot, r.fabric) refl
 
 some_square : (n k : ℕ) → k < n * n → 1 ≤ n
 some_square zero k l = absurd (omega arith)
@@ -141,47 +141,47 @@ module _ (s : Switch) (len n : ℕ) (valid? fits : Bool) (j : Judged s len n val
     pub fitting : store_fits s.running.ports s.depth len ≡ true
     pub all : n ≡ s.running.ports
 
-  fits-well : fits ≡ true → Fits
-  fits-well e =
+  fits_well : fits ≡ true → Fits
+  fits_well e =
       let both = and_true valid? (store_fits s.running.ports s.depth len) (sym j.fits_is ∙ e) in
       record { passed = sym j.valid_is ∙ both.0; fitting = both.1; all = j.choosing ∙ (rw e refl) }
 
-  pub none-choose : fits ≡ false → n ≡ 0
-  none-choose e = j.choosing ∙ (rw e refl)
+  pub none_choose : fits ≡ false → n ≡ 0
+  none_choose e = j.choosing ∙ (rw e refl)
 
-  pub some-choose : 1 ≤ n → Fits
-  some-choose l = go fits refl
+  pub some_choose : 1 ≤ n → Fits
+  some_choose l = go fits refl
     where
       go : (b : Bool) → fits ≡ b → Fits
-      go true e = fits-well e
-      go false e = absurd (omega (arith, none-choose e))
+      go true e = fits_well e
+      go false e = absurd (omega (arith, none_choose e))
 
-  pub few-choose : n ≤ most_ports
-  few-choose = go fits refl
+  pub few_choose : n ≤ most_ports
+  few_choose = go fits refl
     where
       go : (b : Bool) → fits ≡ b → n ≤ most_ports
-      go true e = let f = fits-well e in omega (arith, f.all, (valid s f.passed).running.few_ports)
-      go false e = omega (arith, none-choose e)
+      go true e = let f = fits_well e in omega (arith, f.all, (valid s f.passed).running.few_ports)
+      go false e = omega (arith, none_choose e)
 
 -- The step, by what its tests show.
 module _ (s : Switch) (store : List ℕ) where
-  step-invalid : valid_of s ≡ false → refused_reply s (verdict_by false false true) ≡ step_of s store
+  step_invalid : valid_of s ≡ false → refused_reply s (verdict_by false false true) ≡ step_of s store
   unfolding step_of step_verdict
-  step-invalid e = simp e
+  step_invalid e = simp e
 
-  step-misfit : valid_of s ≡ true → store_fits s.running.ports s.depth (length store) ≡ false → refused_reply s (verdict_by true false true) ≡ step_of s store
+  step_misfit : valid_of s ≡ true → store_fits s.running.ports s.depth (length store) ≡ false → refused_reply s (verdict_by true false true) ≡ step_of s store
   unfolding step_of step_verdict
-  step-misfit e f = simp (e, f)
+  step_misfit e f = simp (e, f)
 
-  step-full : valid_of s ≡ true → store_fits s.running.ports s.depth (length store) ≡ true → has_room (takeover_of s) ≡ false
+  step_full : valid_of s ≡ true → store_fits s.running.ports s.depth (length store) ≡ true → has_room (takeover_of s) ≡ false
       → refused_reply s (verdict_by true true false) ≡ step_of s store
   unfolding step_of step_verdict
-  step-full e f g = simp (e, f, g)
+  step_full e f g = simp (e, f, g)
 
-  pub step-done : valid_of s ≡ true → store_fits s.running.ports s.depth (length store) ≡ true → has_room (takeover_of s) ≡ true
+  pub step_done : valid_of s ≡ true → store_fits s.running.ports s.depth (length store) ≡ true → has_room (takeover_of s) ≡ true
       → slot_reply (takeover_of s) store ≡ step_of s store
   unfolding step_of step_verdict
-  step-done e f g = simp (e, f, g)
+  step_done e f g = simp (e, f, g)
 
 -- The slot, as the code puts it together: of the n ports that choose, m act.
 module _
@@ -190,18 +190,18 @@ module _
     (boards : Side)
     (by-desk : ServedAs (λ p. desk_of (take (n * n) s.running.rates) (take (n * n) s.waiting.rates) n p (takes_over s)) s.fabric.boards s.running.frame s.slot n boards)
   where
-    abbrev board-choices : List Choice
-    board-choices = choices_in boards.turns
+    abbrev board_choices_lem : List Choice
+    board_choices_lem = choices_in boards.turns
 
     few_ports : n ≤ most_ports
-    few_ports = few-choose s (length store) n valid? fits j
+    few_ports = few_choose s (length store) n valid? fits j
 
-    pub boards-can : CanChoose n board-choices
-    boards-can =
+    pub boards_can : CanChoose n board_choices_lem
+    boards_can =
         subst (CanChoose n) (sym by-desk.choices)
-        (desk_named _ _ (takes_over s) s.fabric.boards s.running.frame s.slot n few_ports (running-part s size n few_ports) (waiting-part s size n few_ports))
+        (desk_named _ _ (takes_over s) s.fabric.boards s.running.frame s.slot n few_ports (running_part s size n few_ports) (waiting_part s size n few_ports))
 
-    module _ (room : Bool) (room-test : room ≡ room_for_all n board-choices s.fabric.queues s.fabric.crosspoints) (m : ℕ) (acting-is : m ≡ cond room n 0) where
+    module _ (room : Bool) (room-test : room ≡ room_for_all n board_choices_lem s.fabric.queues s.fabric.crosspoints) (m : ℕ) (acting-is : m ≡ cond room n 0) where
       -- where a port acts, the step is accepted
       pub record Acts : Type 0 where
         pub fit : Fits s (length store) n valid? fits j
@@ -215,29 +215,29 @@ module _
           go : (b : Bool) → room ≡ b → Acts
           go true e =
               let same : m ≡ n = acting-is ∙ (rw e refl) in
-              let f = some-choose s (length store) n valid? fits j (omega arith) in
+              let f = some_choose s (length store) n valid? fits j (omega arith) in
               record { fit = f; rules = valid s f.passed; roomy = e; same = same }
           go false e = let none : m ≡ 0 = acting-is ∙ (rw e refl) in absurd (omega arith)
 
-      pub few-act : m ≤ most_ports
-      few-act = go room refl
+      pub few_act : m ≤ most_ports
+      few_act = go room refl
         where
           go : (b : Bool) → room ≡ b → m ≤ most_ports
           go true e = let same : m ≡ n = acting-is ∙ (rw e refl) in omega (arith, few_ports)
           go false e = let none : m ≡ 0 = acting-is ∙ (rw e refl) in omega arith
 
-      pub moves-can : CanMoveAll m s.depth (length store) board-choices s.fabric.queues s.fabric.crosspoints
-      moves-can = go room refl
+      pub moves_can : CanMoveAll m s.depth (length store) board_choices_lem s.fabric.queues s.fabric.crosspoints
+      moves_can = go room refl
         where
           f : 1 ≤ n → Fits s (length store) n valid? fits j
-          f l = some-choose s (length store) n valid? fits j l
+          f l = some_choose s (length store) n valid? fits j l
 
-          go : (b : Bool) → room ≡ b → CanMoveAll m s.depth (length store) board-choices s.fabric.queues s.fabric.crosspoints
+          go : (b : Bool) → room ≡ b → CanMoveAll m s.depth (length store) board_choices_lem s.fabric.queues s.fabric.crosspoints
           go true e =
               let same : m ≡ n = acting-is ∙ (rw e refl) in
               rw same
               record {
-                choosing = boards-can;
+                choosing = boards_can;
                 some_depth = λ l. (valid s (f l).passed).some_place;
                 few_cells = λ l. (valid s (f l).passed).few_places;
                 fits = λ l. store_length _ _ _ (f l).fitting ∙ (rw (f l).all refl);
@@ -248,11 +248,11 @@ module _
               let none : m ≡ 0 = acting-is ∙ (rw e refl) in
               rw none
               record {
-                choosing = none_chooses board-choices;
+                choosing = none_chooses board_choices_lem;
                 some_depth = λ l. absurd (omega arith);
                 few_cells = λ l. absurd (omega arith);
                 fits = λ l. absurd (omega arith);
-                room = room-none 0 board-choices s.fabric.queues s.fabric.crosspoints;
+                room = room_none 0 board_choices_lem s.fabric.queues s.fabric.crosspoints;
                 places = λ k l. absurd (omega arith);
               }
 
@@ -262,17 +262,17 @@ module _
           (by-columns : ServedAs (λ p. desk_of (take (m * m) columns) (take (m * m) columns) m p false) s.fabric.heads s.running.frame s.slot m heads)
         where
           -- the heads that act are all, or none
-          heads-by : m ≡ n → ServedAs (λ p. desk_of (columns_in s n zeros) (columns_in s n zeros) n p false) s.fabric.heads s.running.frame s.slot n heads
-          heads-by same = rw (are-columns, same) at by-columns
+          heads_by : m ≡ n → ServedAs (λ p. desk_of (columns_in s n zeros) (columns_in s n zeros) n p false) s.fabric.heads s.running.frame s.slot n heads
+          heads_by same = rw (are-columns, same) at by-columns
 
-          pub heads-can : CanChoose m (choices_in heads.turns)
-          heads-can = go room refl
+          pub heads_can : CanChoose m (choices_in heads.turns)
+          heads_can = go room refl
             where
               go : (b : Bool) → room ≡ b → CanChoose m (choices_in heads.turns)
               go true e =
                   let same : m ≡ n = acting-is ∙ (rw e refl) in
-                  let long = columns-length (ruling s n) n zeros few_ports full in
-                  rw (same, (heads-by same).choices) (desk_named _ _ false s.fabric.heads s.running.frame s.slot n few_ports long long)
+                  let long = columns_length (ruling s n) n zeros few_ports full in
+                  rw (same, (heads_by same).choices) (desk_named _ _ false s.fabric.heads s.running.frame s.slot n few_ports long long)
               go false e =
                   let none : m ≡ 0 = acting-is ∙ (rw e refl) in
                   rw none (none_chooses (choices_in heads.turns))
@@ -280,7 +280,7 @@ module _
           module _
               (run : AfterSlot) (run_is : run ≡ run_of m s.depth store boards heads s.fabric)
               (slot : ℕ) (slot_is : slot ≡ cond (eqb m 0) s.slot (cond (eqb (s.slot + 1) s.running.frame) 0 (s.slot + 1)))
-              (verdict : Verdict) (verdict-is : verdict ≡ verdict_by valid? fits room)
+              (verdict : Verdict) (verdict_is : verdict ≡ verdict_by valid? fits room)
             where
               -- what the code answers, with these plans
               abbrev answer : Plan → Plan → ℕ → SlotReply
@@ -297,15 +297,15 @@ module _
                 all : n ≡ s.running.ports
                 all = a.fit.all
 
-                by-rows' : ServedAs (λ p. desk_of (take (s.running.ports * s.running.ports) s.running.rates) (take (s.running.ports * s.running.ports) s.waiting.rates) s.running.ports p (takes_over s)) s.fabric.boards s.running.frame s.slot s.running.ports boards
-                by-rows' = rw all at by-desk
+                by_rows' : ServedAs (λ p. desk_of (take (s.running.ports * s.running.ports) s.running.rates) (take (s.running.ports * s.running.ports) s.waiting.rates) s.running.ports p (takes_over s)) s.fabric.boards s.running.frame s.slot s.running.ports boards
+                by_rows' = rw all at by-desk
 
                 ran' : run ≡ record { fabric = (after_slot (takeover_of s) store).fabric; moves = (slot_moves (takeover_of s) store).ports; sends = (slot_sends (takeover_of s) store).ports }
-                ran' = run_is ∙ (rw (a.same, all) (ran s size a.rules store boards heads by-rows' zeros full (rw all at (heads-by a.same))))
+                ran' = run_is ∙ (rw (a.same, all) (ran s size a.rules store boards heads by_rows' zeros full (rw all at (heads_by a.same))))
 
               accepted : 1 ≤ m → answer (takeover_of s).running (takeover_of s).waiting (takeover_of s).waits ≡ step_of s store
               unfolding after_slot
-              accepted l = whole ∙ step-done s store a.fit.passed a.fit.fitting roomy
+              accepted l = whole ∙ step_done s store a.fit.passed a.fit.fitting roomy
                 where
                   a : Acts
                   a = acts l
@@ -314,13 +314,13 @@ module _
                   k = ruled s size a.rules
 
                   roomy : has_room (takeover_of s) ≡ true
-                  roomy = sym (room-is s size a.rules store boards heads (by-rows' a)) ∙ (rw (← all a) (sym room-test ∙ a.roomy))
+                  roomy = sym (room_is s size a.rules store boards heads (by_rows' a)) ∙ (rw (← all a) (sym room-test ∙ a.roomy))
 
                   told : verdict ≡ Accepted
                   told =
                       let v : valid? ≡ true = j.valid_is ∙ a.fit.passed in
                       let f : fits ≡ true = j.fits_is ∙ (rw (v, a.fit.fitting) refl) in
-                      verdict-is ∙ (rw (v, f, a.roomy) refl)
+                      verdict_is ∙ (rw (v, f, a.roomy) refl)
 
                   next : slot ≡ cond (ends_frame (takeover_of s)) 0 ((takeover_of s).slot + 1)
                   next = slot_is ∙ (rw (ne_eqb m 0 (λ e. omega arith), k.slot, k.frame) refl)
@@ -335,24 +335,24 @@ module _
                   unchanged =
                       let still : run ≡ record { fabric = s.fabric; moves = all_idle; sends = all_idle } = run_is ∙ (rw none (run_none _ _ _ _ _)) in
                       let here : slot ≡ s.slot = slot_is ∙ (rw (eq-eqb m 0 none) refl) in
-                      rw (still, here, verdict-is) refl
+                      rw (still, here, verdict_is) refl
 
                   by_tests : (a b c : Bool) → valid? ≡ a → fits ≡ b → room ≡ c → refused_reply s (verdict_by a b c) ≡ step_of s store
-                  by_tests false b c ev ef er = step-invalid s store (sym j.valid_is ∙ ev)
-                  by_tests true false c ev ef er = step-misfit s store (sym j.valid_is ∙ ev) (sym (rw ev at j.fits_is) ∙ ef)
+                  by_tests false b c ev ef er = step_invalid s store (sym j.valid_is ∙ ev)
+                  by_tests true false c ev ef er = step_misfit s store (sym j.valid_is ∙ ev) (sym (rw ev at j.fits_is) ∙ ef)
                   by_tests true true false ev ef er =
-                      let f = fits-well s (length store) n valid? fits j ef in
+                      let f = fits_well s (length store) n valid? fits j ef in
                       let r = rw f.all at by-desk in
-                      step-full s store f.passed f.fitting
-                      (sym (room-is s size (valid s f.passed) store boards heads r) ∙ (rw (← f.all) (sym room-test ∙ er)))
+                      step_full s store f.passed f.fitting
+                      (sym (room_is s size (valid s f.passed) store boards heads r) ∙ (rw (← f.all) (sym room-test ∙ er)))
                   by_tests true true true ev ef er =
-                      let f = fits-well s (length store) n valid? fits j ef in
+                      let f = fits_well s (length store) n valid? fits j ef in
                       let same : m ≡ n = acting-is ∙ (rw er refl) in
                       absurd (omega (arith, f.all, (valid s f.passed).running.some_port))
 
               -- a plan takes over in an accepted step
-              pub step-takes : takes_over s ≡ true → 1 ≤ m → answer (replaced s.running s.waiting) (cleared s.waiting) 0 ≡ step_of s store
-              step-takes e l = rw (taken s e) at (accepted l)
+              pub step_takes : takes_over s ≡ true → 1 ≤ m → answer (replaced s.running s.waiting) (cleared s.waiting) 0 ≡ step_of s store
+              step_takes e l = rw (taken s e) at (accepted l)
 
               -- otherwise the plans stay
               pub step_keeps : (takes_over s && not (eqb m 0)) ≡ false → answer s.running s.waiting s.waits ≡ step_of s store

@@ -10,12 +10,12 @@ use Rattle.plan.specs.Lines.{flow_of}
 use Rattle.plan.proofs.BelowLaws.{and_true}
 use Rattle.planpair.specs.Rates.{plan_rates}
 use Rattle.planpair.specs.Valid.{plans_valid}
-use Rattle.planpair.proofs.ValidLaws.{running-valid, waiting-valid, plans-are-valid}
+use Rattle.planpair.proofs.ValidLaws.{running_valid, waiting_valid, plans_are_valid}
 use Rattle.fabric.specs.Flow.{most_depth}
 use Rattle.side.specs.Valid.{ports_valid}
 use Rattle.fabric.specs.Valid.{flows_valid}
-use Rattle.side.proofs.ValidLaws.{CountsWithin, ports_valid_lem, ports-are-valid}
-use Rattle.fabric.proofs.ValidLaws.{flows-valid, flows-are-valid}
+use Rattle.side.proofs.ValidLaws.{CountsWithin, ports_valid_lem, ports_are_valid}
+use Rattle.fabric.proofs.ValidLaws.{flows_valid_lem, flows_are_valid}
 use Rattle.crossbar.specs.State.{has_waiting, depth_in_range}
 use Rattle.crossbar.specs.Valid.{valid_of, IsValid}
 use Rattle.crossbar.specs.declared.state.Switch.{Switch}
@@ -51,23 +51,23 @@ module _ (s : Switch) where
   rates = plan_rates s.running
 
   -- where flow (i, j) stands among the boards' counts, and among the heads'
-  board-place : (i j : ℕ) → i * n + j * 1 ≡ flow_of n i j
-  board-place i j = omega arith
+  board_place : (i j : ℕ) → i * n + j * 1 ≡ flow_of n i j
+  board_place i j = omega arith
 
-  head-place : (i j : ℕ) → j * 1 + i * n ≡ flow_of n i j
-  head-place i j = omega arith
+  head_place : (i j : ℕ) → j * 1 + i * n ≡ flow_of n i j
+  head_place i j = omega arith
 
   pub valid : valid_of s ≡ true → IsValid s
   unfolding valid_of
   valid e =
       let h = all_six (plans_valid s.running s.waiting (has_waiting s)) (depth_in_range s.depth) (ltb s.slot s.running.frame) (flows_valid s.fabric.queues s.fabric.crosspoints n s.depth) (ports_valid rates s.fabric.boards n n 1 s.slot) (ports_valid rates s.fabric.heads n 1 n s.slot) e in
-      let waiting = waiting-valid s.running s.waiting (has_waiting s) h.0 in
+      let waiting = waiting_valid s.running s.waiting (has_waiting s) h.0 in
       let depth = depth_range s.depth h.1 in
-      let flow = flows-valid s.fabric.queues s.fabric.crosspoints n s.depth h.3 in
-      let board : CountsWithin rates s.fabric.boards n (flow_of n) s.slot = λ i j li lj. rw (board-place i j) at (ports_valid_lem rates s.fabric.boards n n 1 s.slot h.4 i j li lj) in
-      let head : CountsWithin rates s.fabric.heads n (λ j i. flow_of n i j) s.slot = λ j i lj li. rw (head-place i j) at (ports_valid_lem rates s.fabric.heads n 1 n s.slot h.5 j i lj li) in
+      let flow = flows_valid_lem s.fabric.queues s.fabric.crosspoints n s.depth h.3 in
+      let board : CountsWithin rates s.fabric.boards n (flow_of n) s.slot = λ i j li lj. rw (board_place i j) at (ports_valid_lem rates s.fabric.boards n n 1 s.slot h.4 i j li lj) in
+      let head : CountsWithin rates s.fabric.heads n (λ j i. flow_of n i j) s.slot = λ j i lj li. rw (head_place i j) at (ports_valid_lem rates s.fabric.heads n 1 n s.slot h.5 j i lj li) in
       record {
-        running = running-valid s.running s.waiting (has_waiting s) h.0;
+        running = running_valid s.running s.waiting (has_waiting s) h.0;
         waiting = λ w. (waiting w).0;
         ports_agree = λ w. (waiting w).1;
         same_frame = λ w. (waiting w).2;
@@ -83,14 +83,14 @@ module _ (s : Switch) where
         head_zero = λ z i j li lj. (head j i lj li).1 z;
       }
 
-  pub is-valid : IsValid s → valid_of s ≡ true
+  pub is_valid : IsValid s → valid_of s ≡ true
   unfolding valid_of
-  is-valid v =
+  is_valid v =
       simp (
-        plans-are-valid s.running s.waiting (has_waiting s) v.running v.waiting v.ports_agree v.same_frame,
+        plans_are_valid s.running s.waiting (has_waiting s) v.running v.waiting v.ports_agree v.same_frame,
         depth_in s.depth v.some_place v.few_places,
         lt-ltb s.slot s.running.frame v.in_frame,
-        flows-are-valid s.fabric.queues s.fabric.crosspoints n s.depth (λ k l. (v.queue_place k l, v.queue_count k l, v.crosspoint_count k l)),
-        ports-are-valid rates s.fabric.boards n n 1 s.slot (λ i j li lj. rw (board-place i j) (v.board_count_within i j li lj, λ z. v.board_zero z i j li lj)),
-        ports-are-valid rates s.fabric.heads n 1 n s.slot (λ j i lj li. rw (head-place i j) (v.head_count_within i j li lj, λ z. v.head_zero z i j li lj)),
+        flows_are_valid s.fabric.queues s.fabric.crosspoints n s.depth (λ k l. (v.queue_place k l, v.queue_count k l, v.crosspoint_count k l)),
+        ports_are_valid rates s.fabric.boards n n 1 s.slot (λ i j li lj. rw (board_place i j) (v.board_count_within i j li lj, λ z. v.board_zero z i j li lj)),
+        ports_are_valid rates s.fabric.heads n 1 n s.slot (λ j i lj li. rw (head_place i j) (v.head_count_within i j li lj, λ z. v.head_zero z i j li lj)),
       )

@@ -8,7 +8,7 @@ use Rattle.multiplexer.specs.Choose.{rounded_up}
 use Rattle.multiplexer.specs.Deadlines.{table_frame}
 use Rattle.console.specs.Text.{HasRoom}
 use Rattle.console.proofs.DigitLaws.{digits_within}
-use Rattle.console.proofs.TextBelowLaws.{below-short}
+use Rattle.console.proofs.TextBelowLaws.{below_short}
 use Rattle.deadlines.specs.Printout.{line_of, rate_lines_of, printout_of, line_room, printout_room}
 
 line_short : (value : ℕ) → length (line_of value) ≤ line_room
@@ -18,8 +18,8 @@ rate_short : (a : ℕ) → a ≤ table_frame → length (rate_lines_of a) ≤ ta
 unfolding rate_lines_of
 rate_short a l =
     let deadline : ℕ → ℕ = λ k. rounded_up ((k + 1) * table_frame) a in
-    omega (arith, below-short (λ k. line_of (deadline k)) line_room a (λ k _. line_short (deadline k)))
+    omega (arith, below_short (λ k. line_of (deadline k)) line_room a (λ k _. line_short (deadline k)))
 
 pub printout_room_lem : (buffer : List ℕ) → length buffer ≡ printout_room → HasRoom buffer 0 printout_of
 unfolding printout_of
-printout_room_lem buffer long = omega (arith, below-short (λ b. rate_lines_of (b + 1)) (table_frame * line_room) table_frame (λ b l. rate_short (b + 1) (omega arith)))
+printout_room_lem buffer long = omega (arith, below_short (λ b. rate_lines_of (b + 1)) (table_frame * line_room) table_frame (λ b l. rate_short (b + 1) (omega arith)))

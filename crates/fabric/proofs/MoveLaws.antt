@@ -55,32 +55,32 @@ room_left q x e h = ltb-true x.count crosspoint_depth (rw (ne_eqb q.count 0 h) a
 
 -- Whether the boards below m leave room, one board more, and all of them.
 module _ (n : ℕ) (choices : List Choice) (queues : List Queue) (points : List Crosspoint) where
-  unfoldable pub roomBelow : ℕ → Bool
-  roomBelow m = all_below (λ p. room_for n queues points p (choice_at choices p)) m
+  unfoldable pub room_below : ℕ → Bool
+  room_below m = all_below (λ p. room_for n queues points p (choice_at choices p)) m
 
   room_of : (m j k : ℕ) → choice_at choices m ≡ Flow j → k ≡ flow_of n m j
       → room_in (get_or queues k no_queue) (get_or points k no_point) ≡ room_for n queues points m (choice_at choices m)
   unfolding room_for
   room_of m j k c e = rw (c, e)
 
-  pub room-idle-step : (m : ℕ) → roomBelow m ≡ true → choice_at choices m ≡ Idle → roomBelow (m + 1) ≡ true
-  unfolding roomBelow room_for
-  room-idle-step m h c = rw (add-one, h, c)
+  pub room_idle_step : (m : ℕ) → room_below m ≡ true → choice_at choices m ≡ Idle → room_below (m + 1) ≡ true
+  unfolding room_below room_for
+  room_idle_step m h c = rw (add-one, h, c)
 
-  pub room-flow-step : (m j k : ℕ) → roomBelow m ≡ true → choice_at choices m ≡ Flow j → k ≡ flow_of n m j
-      → room_in (get_or queues k no_queue) (get_or points k no_point) ≡ true → roomBelow (m + 1) ≡ true
-  unfolding roomBelow
-  room-flow-step m j k h c e r = rw (add-one, h, sym (room_of m j k c e)) r
+  pub room_flow_step : (m j k : ℕ) → room_below m ≡ true → choice_at choices m ≡ Flow j → k ≡ flow_of n m j
+      → room_in (get_or queues k no_queue) (get_or points k no_point) ≡ true → room_below (m + 1) ≡ true
+  unfolding room_below
+  room_flow_step m j k h c e r = rw (add-one, h, sym (room_of m j k c e)) r
 
-  pub room-fails : (m j k : ℕ) → m < n → choice_at choices m ≡ Flow j → k ≡ flow_of n m j
+  pub room_fails : (m j k : ℕ) → m < n → choice_at choices m ≡ Flow j → k ≡ flow_of n m j
       → room_in (get_or queues k no_queue) (get_or points k no_point) ≡ false → room_for_all n choices queues points ≡ false
   unfolding room_for_all
-  room-fails m j k l c e r = all_fails _ n m l (sym (room_of m j k c e) ∙ r)
+  room_fails m j k l c e r = all_fails _ n m l (sym (room_of m j k c e) ∙ r)
 
   -- the test passes where each crosspoint that is served has a place left
-  pub room-enough : ((i j : ℕ) → i < n → choice_at choices i ≡ Flow j → (get_or points (flow_of n i j) no_point).count < crosspoint_depth) → room_for_all n choices queues points ≡ true
+  pub room_enough : ((i j : ℕ) → i < n → choice_at choices i ≡ Flow j → (get_or points (flow_of n i j) no_point).count < crosspoint_depth) → room_for_all n choices queues points ≡ true
   unfolding room_for_all room_for
-  room-enough left = all_intro _ n (λ i hi. go i hi (choice_at choices i) refl)
+  room_enough left = all_intro _ n (λ i hi. go i hi (choice_at choices i) refl)
     where
       go : (i : ℕ) → i < n → (c : Choice) → choice_at choices i ≡ c → room_for n queues points i c ≡ true
       go i hi Idle e = refl
@@ -92,18 +92,18 @@ module _ (n : ℕ) (choices : List Choice) (queues : List Queue) (points : List 
   unfolding room_for_all
   room_at h i j l c = room_of i j (flow_of n i j) c refl ∙ all_holds (λ p. room_for n queues points p (choice_at choices p)) n h i l
 
-  pub room-start : roomBelow 0 ≡ true
-  unfolding roomBelow
-  room-start = refl
+  pub room_start : room_below 0 ≡ true
+  unfolding room_below
+  room_start = refl
 
   -- where no board acts
-  pub room-none : room_for_all 0 choices queues points ≡ true
+  pub room_none : room_for_all 0 choices queues points ≡ true
   unfolding room_for_all
-  room-none = refl
+  room_none = refl
 
-  pub room-all : (m : ℕ) → m ≡ n → roomBelow m ≡ room_for_all n choices queues points
-  unfolding roomBelow room_for_all
-  room-all m e = rw e
+  pub room_all : (m : ℕ) → m ≡ n → room_below m ≡ room_for_all n choices queues points
+  unfolding room_below room_for_all
+  room_all m e = rw e
 
 -- flow (i, j)'s move in the queues and crosspoints given
 abbrev pub flow_move : ℕ → ℕ → List ℕ → List Queue → List Crosspoint → ℕ → ℕ → Move
@@ -123,40 +123,40 @@ module _ (n depth : ℕ) (store : List ℕ) (choices : List Choice) (queues : Li
   after m = moves_of n depth store choices queues points m
 
   -- one board more, by its choice
-  pub moves-idle-step : (m : ℕ) (f : Moves) → f ≡ after m → choice_at choices m ≡ Idle → f ≡ after (m + 1)
+  pub moves_idle_step : (m : ℕ) (f : Moves) → f ≡ after m → choice_at choices m ≡ Idle → f ≡ after (m + 1)
   unfolding moves_of board_moves
-  moves-idle-step m f e c = rw (add-one, c) e
+  moves_idle_step m f e c = rw (add-one, c) e
 
-  pub moves-flow-step : (m j k at : ℕ) (f : Moves) (r : Move) → f ≡ after m → choice_at choices m ≡ Flow j → k ≡ flow_of n m j
+  pub moves_flow_step : (m j k at : ℕ) (f : Moves) (r : Move) → f ≡ after m → choice_at choices m ≡ Flow j → k ≡ flow_of n m j
       → at ≡ cell_place depth k (get_or f.queues k no_queue) 0
       → r ≡ move_of depth j (get_or store at 0) (get_or f.queues k no_queue) (get_or f.crosspoints k no_point)
       → with_move m k f r ≡ after (m + 1)
   unfolding moves_of board_moves
-  moves-flow-step m j k at f r e c ek ea er = rw (add-one, c, er, ea, ek, e)
+  moves_flow_step m j k at f r e c ek ea er = rw (add-one, c, er, ea, ek, e)
 
   -- board m serves flow k
   abbrev serves : ℕ → ℕ → Type 0
   serves m k = (j : ℕ) × (choice_at choices m ≡ Flow j) × (flow_of n m j ≡ k)
 
-  queue-other : (m k : ℕ) → (serves m k → ⊥) → get_or (after (suc m)).queues k no_queue ≡ get_or (after m).queues k no_queue
+  queue_other : (m k : ℕ) → (serves m k → ⊥) → get_or (after (suc m)).queues k no_queue ≡ get_or (after m).queues k no_queue
   unfolding moves_of board_moves
-  queue-other m k h = go (choice_at choices m) refl
+  queue_other m k h = go (choice_at choices m) refl
     where
       go : (c : Choice) → choice_at choices m ≡ c → get_or (board_moves n depth store m c (after m)).queues k no_queue ≡ get_or (after m).queues k no_queue
       go Idle e = refl
       go (Flow j) e = get_or-set_other (after m).queues (flow_of n m j) k _ no_queue (λ x. h (j, e, sym x))
 
-  point-other : (m k : ℕ) → (serves m k → ⊥) → get_or (after (suc m)).crosspoints k no_point ≡ get_or (after m).crosspoints k no_point
+  point_other : (m k : ℕ) → (serves m k → ⊥) → get_or (after (suc m)).crosspoints k no_point ≡ get_or (after m).crosspoints k no_point
   unfolding moves_of board_moves
-  point-other m k h = go (choice_at choices m) refl
+  point_other m k h = go (choice_at choices m) refl
     where
       go : (c : Choice) → choice_at choices m ≡ c → get_or (board_moves n depth store m c (after m)).crosspoints k no_point ≡ get_or (after m).crosspoints k no_point
       go Idle e = refl
       go (Flow j) e = get_or-set_other (after m).crosspoints (flow_of n m j) k _ no_point (λ x. h (j, e, sym x))
 
-  answer-other : (m p : ℕ) → (p ≡ m → ⊥) → answer_of (after (suc m)).ports p ≡ answer_of (after m).ports p
+  answer_other : (m p : ℕ) → (p ≡ m → ⊥) → answer_of (after (suc m)).ports p ≡ answer_of (after m).ports p
   unfolding moves_of board_moves
-  answer-other m p h = go (choice_at choices m)
+  answer_other m p h = go (choice_at choices m)
     where
       go : (c : Choice) → answer_of (board_moves n depth store m c (after m)).ports p ≡ answer_of (after m).ports p
       go Idle = refl
@@ -171,8 +171,8 @@ module _ (n depth : ℕ) (store : List ℕ) (choices : List Choice) (queues : Li
   unfolding moves_of
   kept m k h =
       record {
-        queue = untouched (λ m k. get_or (after m).queues k no_queue) serves queue-other m k h;
-        point = untouched (λ m k. get_or (after m).crosspoints k no_point) serves point-other m k h;
+        queue = untouched (λ m k. get_or (after m).queues k no_queue) serves queue_other m k h;
+        point = untouched (λ m k. get_or (after m).crosspoints k no_point) serves point_other m k h;
       }
 
   -- the row of board i is untouched until its turn
@@ -181,9 +181,9 @@ module _ (n depth : ℕ) (store : List ℕ) (choices : List Choice) (queues : Li
   moves_before named m i j before few hj = kept m (flow_of n i j) (λ p l s. omega (arith, (only named p i j (omega arith) hj s).0))
 
   -- what the code asks of the flow that board m serves
-  pub moves-ready : (len m j k : ℕ) (f : Moves) → CanMoveAll n depth len choices queues points → m < n → f ≡ after m
+  pub moves_ready : (len m j k : ℕ) (f : Moves) → CanMoveAll n depth len choices queues points → m < n → f ≡ after m
       → choice_at choices m ≡ Flow j → k ≡ flow_of n m j → CanMove depth (get_or f.queues k no_queue) (get_or f.crosspoints k no_point)
-  moves-ready len m j k f h l e c ek =
+  moves_ready len m j k f h l e c ek =
       let hj = h.choosing.named m j l c in
       let is = moves_before h.choosing.named m m j (omega arith) (omega arith) hj in
       rw (e, ek, is.queue, is.point)
@@ -195,85 +195,85 @@ module _ (n depth : ℕ) (store : List ℕ) (choices : List Choice) (queues : Li
       })
 
   pub record MoveLengths (f : Moves) : Type 0 where
-    pub queues-kept : length f.queues ≡ length queues
+    pub queues_kept : length f.queues ≡ length queues
     pub points_kept : length f.crosspoints ≡ length points
-    pub all-ports : length f.ports ≡ most_ports
+    pub all_ports : length f.ports ≡ most_ports
 
-  length-step : (m : ℕ) (c : Choice) (f : Moves) → MoveLengths f → MoveLengths (board_moves n depth store m c f)
+  length_step : (m : ℕ) (c : Choice) (f : Moves) → MoveLengths f → MoveLengths (board_moves n depth store m c f)
   unfolding board_moves
-  length-step m Idle f h = h
-  length-step m (Flow j) f h =
+  length_step m Idle f h = h
+  length_step m (Flow j) f h =
       record {
-        queues-kept = length-set f.queues _ _ ∙ h.queues-kept;
+        queues_kept = length-set f.queues _ _ ∙ h.queues_kept;
         points_kept = length-set f.crosspoints _ _ ∙ h.points_kept;
-        all-ports = length-set f.ports _ _ ∙ h.all-ports;
+        all_ports = length-set f.ports _ _ ∙ h.all_ports;
       }
 
-  pub moves-length : (m : ℕ) → MoveLengths (after m)
+  pub moves_length : (m : ℕ) → MoveLengths (after m)
   unfolding moves_of
-  moves-length zero = record { queues-kept = refl; points_kept = refl; all-ports = refl }
-  moves-length (suc m) = length-step m (choice_at choices m) (after m) (moves-length m)
+  moves_length zero = record { queues_kept = refl; points_kept = refl; all_ports = refl }
+  moves_length (suc m) = length_step m (choice_at choices m) (after m) (moves_length m)
 
   -- board m's service, with what it finds
-  served-step : NamesBelow n choices → (m j : ℕ) → m < n → choice_at choices m ≡ Flow j
+  served_step : NamesBelow n choices → (m j : ℕ) → m < n → choice_at choices m ≡ Flow j
       → after (suc m) ≡ with_move m (flow_of n m j) (after m) (flow_move n depth store queues points m j)
   unfolding moves_of board_moves
-  served-step named m j l c =
+  served_step named m j l c =
       let is = moves_before named m m j (omega arith) (omega arith) (named m j l c) in
       rw (c, is.queue, is.point)
 
-  moves-answer-past : (m p : ℕ) → m ≤ p → answer_of (after m).ports p ≡ answer.Idle
+  moves_answer_past : (m p : ℕ) → m ≤ p → answer_of (after m).ports p ≡ answer.Idle
   unfolding moves_of
-  moves-answer-past m p l =
-      not_yet (λ m p. answer_of (after m).ports p) answer-other m p l
+  moves_answer_past m p l =
+      not_yet (λ m p. answer_of (after m).ports p) answer_other m p l
       ∙ ap (λ (x : Port). x.answer) (get_d_repeated most_ports p (port answer.Idle))
 
-  pub moves-answer-idle : (i : ℕ) → i < n → choice_at choices i ≡ Idle → answer_of (after n).ports i ≡ answer.Idle
+  pub moves_answer_idle : (i : ℕ) → i < n → choice_at choices i ≡ Idle → answer_of (after n).ports i ≡ answer.Idle
   unfolding moves_of board_moves
-  moves-answer-idle i l c = done (λ m p. answer_of (after m).ports p) answer-other n i l ∙ rw c (moves-answer-past i i (omega arith))
+  moves_answer_idle i l c = done (λ m p. answer_of (after m).ports p) answer_other n i l ∙ rw c (moves_answer_past i i (omega arith))
 
-  later-boards : NamesBelow n choices → (i j : ℕ) → i < n → choice_at choices i ≡ Flow j → (q : ℕ) → i < q → q < n → serves q (flow_of n i j) → ⊥
-  later-boards named i j l c q lo hi s = omega (arith, (only named q i j hi (named i j l c) s).0)
+  later_boards : NamesBelow n choices → (i j : ℕ) → i < n → choice_at choices i ≡ Flow j → (q : ℕ) → i < q → q < n → serves q (flow_of n i j) → ⊥
+  later_boards named i j l c q lo hi s = omega (arith, (only named q i j hi (named i j l c) s).0)
 
   -- the flow that board i serves, and its answer
   pub record Moved (i j : ℕ) : Type 0 where
     pub flow : FlowIs (after n) (flow_of n i j) (flow_move n depth store queues points i j).queue (flow_move n depth store queues points i j).point
     pub answer : answer_of (after n).ports i ≡ (flow_move n depth store queues points i j).port.answer
 
-  pub moves-served : CanChoose n choices → length queues ≡ most_flows → length points ≡ most_flows → (i j : ℕ) → i < n → choice_at choices i ≡ Flow j → Moved i j
-  moves-served h full full' i j l c =
+  pub moves_served : CanChoose n choices → length queues ≡ most_flows → length points ≡ most_flows → (i j : ℕ) → i < n → choice_at choices i ≡ Flow j → Moved i j
+  moves_served h full full' i j l c =
       let k = flow_of n i j in
       let r = flow_move n depth store queues points i j in
-      let e = served-step h.named i j l c in
+      let e = served_step h.named i j l c in
       let small = flow_small n i j h.few_ports l (h.named i j l c) in
-      let size = moves-length i in
+      let size = moves_length i in
       record {
         flow =
             record {
               queue =
-                  settled (λ m k. get_or (after m).queues k no_queue) serves queue-other n i k l (later-boards h.named i j l c)
+                  settled (λ m k. get_or (after m).queues k no_queue) serves queue_other n i k l (later_boards h.named i j l c)
                   ∙ ap (λ (f : Moves). get_or f.queues k no_queue) e
-                  ∙ get_or-set_same (after i).queues k r.queue no_queue (omega (arith, size.queues-kept));
+                  ∙ get_or-set_same (after i).queues k r.queue no_queue (omega (arith, size.queues_kept));
               point =
-                  settled (λ m k. get_or (after m).crosspoints k no_point) serves point-other n i k l (later-boards h.named i j l c)
+                  settled (λ m k. get_or (after m).crosspoints k no_point) serves point_other n i k l (later_boards h.named i j l c)
                   ∙ ap (λ (f : Moves). get_or f.crosspoints k no_point) e
                   ∙ get_or-set_same (after i).crosspoints k r.point no_point (omega (arith, size.points_kept));
             };
         answer =
-            done (λ m p. answer_of (after m).ports p) answer-other n i l
+            done (λ m p. answer_of (after m).ports p) answer_other n i l
             ∙ ap (λ (f : Moves). answer_of f.ports i) e
-            ∙ ap (λ (x : Port). x.answer) (get_or-set_same (after i).ports i r.port (port answer.Idle) (omega (arith, size.all-ports, h.few_ports)));
+            ∙ ap (λ (x : Port). x.answer) (get_or-set_same (after i).ports i r.port (port answer.Idle) (omega (arith, size.all_ports, h.few_ports)));
       }
 
   -- a flow that its board doesn't serve
-  pub moves-passed : NamesBelow n choices → (i j : ℕ) → j < n → (choice_at choices i ≡ Flow j → ⊥)
+  pub moves_passed : NamesBelow n choices → (i j : ℕ) → j < n → (choice_at choices i ≡ Flow j → ⊥)
       → FlowIs (after n) (flow_of n i j) (get_or queues (flow_of n i j) no_queue) (get_or points (flow_of n i j) no_point)
-  moves-passed named i j hj otherwise =
+  moves_passed named i j hj otherwise =
       kept n (flow_of n i j) (λ p l s. let at = only named p i j l hj s in otherwise (ap (choice_at choices) (sym at.0) ∙ at.1))
 
   -- "What the state holds for ports from N up is neither looked at nor changed."
-  pub moves-past : NamesBelow n choices → (k : ℕ) → n * n ≤ k → FlowIs (after n) k (get_or queues k no_queue) (get_or points k no_point)
-  moves-past named k h = kept n k (λ p l (j, c, e). omega (arith, flow_below n p j l (named p j l c)))
+  pub moves_past : NamesBelow n choices → (k : ℕ) → n * n ≤ k → FlowIs (after n) k (get_or queues k no_queue) (get_or points k no_point)
+  moves_past named k h = kept n k (λ p l (j, c, e). omega (arith, flow_below n p j l (named p j l c)))
 
 -- the fabric after the moves, put together from the lists that they change and those that stay
 pub moved_whole : (a b : Fabric) (ports : List Port) (m : Moves) → a.boards ≡ b.boards → a.heads ≡ b.heads

@@ -32,23 +32,23 @@ pub idle_names : (p : ℕ) → NamesPort (answer_of all_idle p)
 idle_names p = repeated_is PortNames most_ports p (port answer.Idle) tt
 
 module _ (choices : List Choice) (named : (p : ℕ) → ChoosesPort (choice_at choices p)) where
-  pub moves-name : (n depth : ℕ) (store : List ℕ) (queues : List Queue) (points : List Crosspoint) (m p : ℕ)
+  pub moves_name : (n depth : ℕ) (store : List ℕ) (queues : List Queue) (points : List Crosspoint) (m p : ℕ)
       → NamesPort (answer_of (moves_of n depth store choices queues points m).ports p)
   unfolding moves_of board_moves
-  moves-name n depth store queues points zero p = idle_names p
-  moves-name n depth store queues points (suc m) p =
-      go (choice_at choices m) (named m) (moves_of n depth store choices queues points m) (moves-name n depth store queues points m p)
+  moves_name n depth store queues points zero p = idle_names p
+  moves_name n depth store queues points (suc m) p =
+      go (choice_at choices m) (named m) (moves_of n depth store choices queues points m) (moves_name n depth store queues points m p)
     where
       go : (c : Choice) → ChoosesPort c → (f : Moves) → NamesPort (answer_of f.ports p) → NamesPort (answer_of (board_moves n depth store m c f).ports p)
       go Idle h f was = was
       go (Flow j) h f was =
           set_keeps PortNames f.ports m p _ (port answer.Idle) (move_case (λ r. PortNames r.port) depth j _ _ _ (λ _. h) (λ _. h)) was
 
-  pub sends-name : (n : ℕ) (points : List Crosspoint) (m p : ℕ) → NamesPort (answer_of (sends_of n choices points m).ports p)
+  pub sends_name : (n : ℕ) (points : List Crosspoint) (m p : ℕ) → NamesPort (answer_of (sends_of n choices points m).ports p)
   unfolding sends_of head_sends
-  sends-name n points zero p = idle_names p
-  sends-name n points (suc m) p =
-      go (choice_at choices m) (named m) (sends_of n choices points m) (sends-name n points m p)
+  sends_name n points zero p = idle_names p
+  sends_name n points (suc m) p =
+      go (choice_at choices m) (named m) (sends_of n choices points m) (sends_name n points m p)
     where
       go : (c : Choice) → ChoosesPort c → (f : Sends) → NamesPort (answer_of f.ports p) → NamesPort (answer_of (head_sends n m c f).ports p)
       go Idle h f was = was

@@ -59,30 +59,30 @@ module _ (n : ℕ) (choices : List Choice) (points : List Crosspoint) where
   after m = sends_of n choices points m
 
   -- one head more, by its choice
-  pub sends-idle-step : (m : ℕ) (f : Sends) → f ≡ after m → choice_at choices m ≡ Idle → f ≡ after (m + 1)
+  pub sends_idle_step : (m : ℕ) (f : Sends) → f ≡ after m → choice_at choices m ≡ Idle → f ≡ after (m + 1)
   unfolding sends_of head_sends
-  sends-idle-step m f e c = rw (add-one, c) e
+  sends_idle_step m f e c = rw (add-one, c) e
 
-  pub sends-flow-step : (m i k : ℕ) (f : Sends) (r : Send) → f ≡ after m → choice_at choices m ≡ Flow i → k ≡ flow_of n i m
+  pub sends_flow_step : (m i k : ℕ) (f : Sends) (r : Send) → f ≡ after m → choice_at choices m ≡ Flow i → k ≡ flow_of n i m
       → r ≡ send_of i (get_or f.crosspoints k no_point) → with_send m k f r ≡ after (m + 1)
   unfolding sends_of head_sends
-  sends-flow-step m i k f r e c ek er = rw (add-one, c, er, ek, e)
+  sends_flow_step m i k f r e c ek er = rw (add-one, c, er, ek, e)
 
   -- head m serves flow k
   abbrev serves : ℕ → ℕ → Type 0
   serves m k = (i : ℕ) × (choice_at choices m ≡ Flow i) × (flow_of n i m ≡ k)
 
-  point-other : (m k : ℕ) → (serves m k → ⊥) → get_or (after (suc m)).crosspoints k no_point ≡ get_or (after m).crosspoints k no_point
+  point_other : (m k : ℕ) → (serves m k → ⊥) → get_or (after (suc m)).crosspoints k no_point ≡ get_or (after m).crosspoints k no_point
   unfolding sends_of head_sends
-  point-other m k h = go (choice_at choices m) refl
+  point_other m k h = go (choice_at choices m) refl
     where
       go : (c : Choice) → choice_at choices m ≡ c → get_or (head_sends n m c (after m)).crosspoints k no_point ≡ get_or (after m).crosspoints k no_point
       go Idle e = refl
       go (Flow i) e = get_or-set_other (after m).crosspoints (flow_of n i m) k _ no_point (λ x. h (i, e, sym x))
 
-  answer-other : (m p : ℕ) → (p ≡ m → ⊥) → answer_of (after (suc m)).ports p ≡ answer_of (after m).ports p
+  answer_other : (m p : ℕ) → (p ≡ m → ⊥) → answer_of (after (suc m)).ports p ≡ answer_of (after m).ports p
   unfolding sends_of head_sends
-  answer-other m p h = go (choice_at choices m)
+  answer_other m p h = go (choice_at choices m)
     where
       go : (c : Choice) → answer_of (head_sends n m c (after m)).ports p ≡ answer_of (after m).ports p
       go Idle = refl
@@ -95,73 +95,73 @@ module _ (n : ℕ) (choices : List Choice) (points : List Crosspoint) where
   -- a crosspoint that no head below m serves stays as it was
   kept : (m k : ℕ) → ((p : ℕ) → p < m → serves p k → ⊥) → get_or (after m).crosspoints k no_point ≡ get_or points k no_point
   unfolding sends_of
-  kept m k h = untouched (λ m k. get_or (after m).crosspoints k no_point) serves point-other m k h
+  kept m k h = untouched (λ m k. get_or (after m).crosspoints k no_point) serves point_other m k h
 
   pub record SendLengths (f : Sends) : Type 0 where
     pub points_kept : length f.crosspoints ≡ length points
-    pub all-ports : length f.ports ≡ most_ports
+    pub all_ports : length f.ports ≡ most_ports
 
-  length-step : (m : ℕ) (c : Choice) (f : Sends) → SendLengths f → SendLengths (head_sends n m c f)
+  length_step : (m : ℕ) (c : Choice) (f : Sends) → SendLengths f → SendLengths (head_sends n m c f)
   unfolding head_sends
-  length-step m Idle f h = h
-  length-step m (Flow i) f h =
-      record { points_kept = length-set f.crosspoints _ _ ∙ h.points_kept; all-ports = length-set f.ports _ _ ∙ h.all-ports }
+  length_step m Idle f h = h
+  length_step m (Flow i) f h =
+      record { points_kept = length-set f.crosspoints _ _ ∙ h.points_kept; all_ports = length-set f.ports _ _ ∙ h.all_ports }
 
-  pub sends-length : (m : ℕ) → SendLengths (after m)
+  pub sends_length : (m : ℕ) → SendLengths (after m)
   unfolding sends_of
-  sends-length zero = record { points_kept = refl; all-ports = refl }
-  sends-length (suc m) = length-step m (choice_at choices m) (after m) (sends-length m)
+  sends_length zero = record { points_kept = refl; all_ports = refl }
+  sends_length (suc m) = length_step m (choice_at choices m) (after m) (sends_length m)
 
   -- head m's service, with what it finds
-  served-step : (m i : ℕ) → m < n → choice_at choices m ≡ Flow i
+  served_step : (m i : ℕ) → m < n → choice_at choices m ≡ Flow i
       → after (suc m) ≡ with_send m (flow_of n i m) (after m) (flow_send n points i m)
   unfolding sends_of head_sends
-  served-step m i l c =
+  served_step m i l c =
       let is = kept m (flow_of n i m) (λ p h s. omega (arith, (only p i m (omega arith) l s).0)) in
       rw (c, is)
 
-  sends-answer-past : (m p : ℕ) → m ≤ p → answer_of (after m).ports p ≡ answer.Idle
+  sends_answer_past : (m p : ℕ) → m ≤ p → answer_of (after m).ports p ≡ answer.Idle
   unfolding sends_of
-  sends-answer-past m p l =
-      not_yet (λ m p. answer_of (after m).ports p) answer-other m p l
+  sends_answer_past m p l =
+      not_yet (λ m p. answer_of (after m).ports p) answer_other m p l
       ∙ ap (λ (x : Port). x.answer) (get_d_repeated most_ports p (port answer.Idle))
 
-  pub sends-answer-idle : (j : ℕ) → j < n → choice_at choices j ≡ Idle → answer_of (after n).ports j ≡ answer.Idle
+  pub sends_answer_idle : (j : ℕ) → j < n → choice_at choices j ≡ Idle → answer_of (after n).ports j ≡ answer.Idle
   unfolding sends_of head_sends
-  sends-answer-idle j l c = done (λ m p. answer_of (after m).ports p) answer-other n j l ∙ rw c (sends-answer-past j j (omega arith))
+  sends_answer_idle j l c = done (λ m p. answer_of (after m).ports p) answer_other n j l ∙ rw c (sends_answer_past j j (omega arith))
 
   -- the flow that head j serves, and its answer
   pub record Sent (i j : ℕ) : Type 0 where
     pub point : get_or (after n).crosspoints (flow_of n i j) no_point ≡ (flow_send n points i j).point
     pub answer : answer_of (after n).ports j ≡ (flow_send n points i j).port.answer
 
-  pub sends-served : CanChoose n choices → length points ≡ most_flows → (i j : ℕ) → j < n → choice_at choices j ≡ Flow i → Sent i j
-  sends-served h full i j l c =
+  pub sends_served : CanChoose n choices → length points ≡ most_flows → (i j : ℕ) → j < n → choice_at choices j ≡ Flow i → Sent i j
+  sends_served h full i j l c =
       let k = flow_of n i j in
       let r = flow_send n points i j in
-      let e = served-step j i l c in
+      let e = served_step j i l c in
       let small = flow_small n i j h.few_ports (h.named j i l c) l in
-      let size = sends-length j in
+      let size = sends_length j in
       record {
         point =
-            settled (λ m k. get_or (after m).crosspoints k no_point) serves point-other n j k l (λ q lo hi s. omega (arith, (only q i j hi l s).0))
+            settled (λ m k. get_or (after m).crosspoints k no_point) serves point_other n j k l (λ q lo hi s. omega (arith, (only q i j hi l s).0))
             ∙ ap (λ (f : Sends). get_or f.crosspoints k no_point) e
             ∙ get_or-set_same (after j).crosspoints k r.point no_point (omega (arith, size.points_kept));
         answer =
-            done (λ m p. answer_of (after m).ports p) answer-other n j l
+            done (λ m p. answer_of (after m).ports p) answer_other n j l
             ∙ ap (λ (f : Sends). answer_of f.ports j) e
-            ∙ ap (λ (x : Port). x.answer) (get_or-set_same (after j).ports j r.port (port answer.Idle) (omega (arith, size.all-ports, h.few_ports)));
+            ∙ ap (λ (x : Port). x.answer) (get_or-set_same (after j).ports j r.port (port answer.Idle) (omega (arith, size.all_ports, h.few_ports)));
       }
 
   -- a flow that its head doesn't serve
-  pub sends-passed : (i j : ℕ) → j < n → (choice_at choices j ≡ Flow i → ⊥)
+  pub sends_passed : (i j : ℕ) → j < n → (choice_at choices j ≡ Flow i → ⊥)
       → get_or (after n).crosspoints (flow_of n i j) no_point ≡ get_or points (flow_of n i j) no_point
-  sends-passed i j hj otherwise =
+  sends_passed i j hj otherwise =
       kept n (flow_of n i j) (λ p l s. let at = only p i j l hj s in otherwise (ap (choice_at choices) (sym at.0) ∙ at.1))
 
   -- "What the state holds for ports from N up is neither looked at nor changed."
-  pub sends-past : NamesBelow n choices → (k : ℕ) → n * n ≤ k → get_or (after n).crosspoints k no_point ≡ get_or points k no_point
-  sends-past named k h = kept n k (λ p l (i, c, e). omega (arith, flow_below n i p (named p i l c) l))
+  pub sends_past : NamesBelow n choices → (k : ℕ) → n * n ≤ k → get_or (after n).crosspoints k no_point ≡ get_or points k no_point
+  sends_past named k h = kept n k (λ p l (i, c, e). omega (arith, flow_below n i p (named p i l c) l))
 
 -- the fabric after the sends, put together from the lists that they change and those that stay
 pub sent_whole : (a b : Fabric) (ports : List Port) (s : Sends) → a.queues ≡ b.queues → a.boards ≡ b.boards → a.heads ≡ b.heads

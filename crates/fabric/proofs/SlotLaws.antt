@@ -6,7 +6,7 @@ use native.Mathlib.Omega.{arith}
 use Rattle.multiplexer.specs.declared.Choice.{Choice}
 use Rattle.fabric.specs.Answer.{all_idle}
 use Rattle.side.specs.Choices.{CanChoose}
-use Rattle.side.proofs.CountLaws.{ports-none}
+use Rattle.side.proofs.CountLaws.{ports_none}
 use Rattle.fabric.specs.Moves.{moves_of}
 use Rattle.fabric.specs.Sends.{sends_of}
 use Rattle.fabric.specs.Slot.{run_of}
@@ -16,7 +16,7 @@ use Rattle.side.specs.declared.choices.Side.{Side}
 pub run_none : (depth : ℕ) (store : List ℕ) (boards heads : Side) (f : Fabric)
     → run_of 0 depth store boards heads f ≡ record { fabric = f; moves = all_idle; sends = all_idle }
 unfolding moves_of sends_of
-run_none depth store boards heads f = rw (ports-none boards.ports f.boards, ports-none heads.ports f.heads) refl
+run_none depth store boards heads f = rw (ports_none boards.ports f.boards, ports_none heads.ports f.heads) refl
 
 pub none_chooses : (choices : List Choice) → CanChoose 0 choices
 none_chooses choices = record { few_ports = omega arith; named = λ p q l. absurd (omega arith) }

@@ -25,10 +25,10 @@ flow_is_valid : (depth : ℕ) (q : Queue) (x : Crosspoint) → FlowWithin depth 
 flow_is_valid depth q x h = simp (lt-ltb _ _ h.0, le-leb _ _ h.1, le-leb _ _ h.2)
 
 module _ (queues : List Queue) (points : List Crosspoint) (n depth : ℕ) where
-  pub flows-valid : flows_valid queues points n depth ≡ true → (k : ℕ) → k < n * n → FlowWithin depth (get_or queues k no_queue) (get_or points k no_point)
+  pub flows_valid_lem : flows_valid queues points n depth ≡ true → (k : ℕ) → k < n * n → FlowWithin depth (get_or queues k no_queue) (get_or points k no_point)
   unfolding flows_valid
-  flows-valid e k l = flow_valid_lem depth (get_or queues k no_queue) (get_or points k no_point) (all_holds _ (n * n) e k l)
+  flows_valid_lem e k l = flow_valid_lem depth (get_or queues k no_queue) (get_or points k no_point) (all_holds _ (n * n) e k l)
 
-  pub flows-are-valid : ((k : ℕ) → k < n * n → FlowWithin depth (get_or queues k no_queue) (get_or points k no_point)) → flows_valid queues points n depth ≡ true
+  pub flows_are_valid : ((k : ℕ) → k < n * n → FlowWithin depth (get_or queues k no_queue) (get_or points k no_point)) → flows_valid queues points n depth ≡ true
   unfolding flows_valid
-  flows-are-valid h = all_intro _ (n * n) (λ k l. flow_is_valid depth (get_or queues k no_queue) (get_or points k no_point) (h k l))
+  flows_are_valid h = all_intro _ (n * n) (λ k l. flow_is_valid depth (get_or queues k no_queue) (get_or points k no_point) (h k l))

@@ -42,12 +42,12 @@ module _ (s : Switch) (store : List ℕ) (n : ℕ) where
   unfolding slot_lines_of
   lines_end slot frame l = let none : frame - slot ≡ 0 = omega arith in rw none refl
 
-  pub by-step : (slot frame : ℕ) (r : SlotReply) → slot < frame → r ≡ step_of s store
+  pub by_step : (slot frame : ℕ) (r : SlotReply) → slot < frame → r ≡ step_of s store
       → Decided r.verdict (slot_lines_of s store n slot (frame - slot))
       (slot_line_of slot r.moves r.sends n ++ slot_lines_of r.state store n (slot + 1) (frame - (slot + 1)))
       (refusal_line_of r.verdict)
   unfolding slot_lines_of
-  by-step slot frame r l is =
+  by_step slot frame r l is =
       let more : frame - slot ≡ suc (frame - (slot + 1)) = omega arith in
       decided r.verdict _ _ _ (rw (more, is, add-one) refl)
 

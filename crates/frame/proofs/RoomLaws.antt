@@ -17,12 +17,12 @@ use Rattle.planpair.specs.Rates.{plan_rates}
 use Rattle.crossbar.specs.Start.{start_of}
 use Rattle.crossbar.specs.Step.{step_of}
 use Rattle.crossbar.specs.declared.state.Switch.{Switch}
-use Rattle.crossbar.proofs.AnswerLaws.{step-moves-name, step-sends-name}
+use Rattle.crossbar.proofs.AnswerLaws.{step_moves_name, step_sends_name}
 use Rattle.console.specs.Text.{decimal_of, HasRoom, Written}
 use Rattle.frame.specs.Printout.{input_name, output_name, names_of, header_of, choice_of, side_choices_of, slot_line_of, slot_lines_of, frame_printout_of, printout_of, header_room, slot_line_room, printout_room, Prints}
 use Rattle.console.proofs.DigitLaws.{digits_below}
 use Rattle.console.proofs.TextLaws.{refusal_short, either_short}
-use Rattle.console.proofs.TextBelowLaws.{below-short}
+use Rattle.console.proofs.TextBelowLaws.{below_short}
 
 -- the number of a port
 port_short : (p : ℕ) → p < most_ports → length (decimal_of p) ≤ 2
@@ -30,7 +30,7 @@ port_short p l = digits_below 1 20 p (omega arith)
 
 names_short : (side : List ℕ) (n : ℕ) → n ≤ most_ports → length (names_of side n) ≤ n * (length side + 2)
 names_short side n few =
-    below-short (λ p. side ++ decimal_of p) (length side + 2) n
+    below_short (λ p. side ++ decimal_of p) (length side + 2) n
     (λ p l. omega (arith, length-append side (decimal_of p), port_short p (omega arith)))
 
 header_short : (n : ℕ) → n ≤ most_ports → length (header_of n) ≤ header_room
@@ -43,7 +43,7 @@ choice_short (Empty other) h = omega (arith, port_short other h)
 choice_short (Moved other cell) h = omega (arith, port_short other h)
 
 choices_short : (ports : List Port) (n : ℕ) → ((p : ℕ) → NamesPort (answer_of ports p)) → length (side_choices_of ports n) ≤ n * 3
-choices_short ports n named = below-short _ 3 n (λ p _. choice_short (answer_of ports p) (named p))
+choices_short ports n named = below_short _ 3 n (λ p _. choice_short (answer_of ports p) (named p))
 
 slot_short : (s : Switch) (store : List ℕ) (n slot : ℕ) → n ≤ most_ports → slot < most_slots
     → length (slot_line_of slot (step_of s store).moves (step_of s store).sends n) ≤ slot_line_room
@@ -54,8 +54,8 @@ slot_short s store n slot few l =
     (omega (
       arith,
       digits_below 3 20 slot (omega arith),
-      choices_short r.moves n (step-moves-name s store),
-      choices_short r.sends n (step-sends-name s store),
+      choices_short r.moves n (step_moves_name s store),
+      choices_short r.sends n (step_sends_name s store),
     ))
 
 lines_short : (s : Switch) (store : List ℕ) (n slot left : ℕ) → n ≤ most_ports → slot + left ≤ most_slots → length (slot_lines_of s store n slot left) ≤ left * slot_line_room

@@ -15,11 +15,11 @@ use Rattle.planpair.specs.Rates.{plan_rates}
 use Rattle.multiplexer.specs.Serve.{serve_of}
 use Rattle.multiplexer.specs.Window.{column_of, FrameStart}
 use Rattle.multiplexer.specs.declared.Multiplexer.{Multiplexer}
-use Rattle.multiplexer.proofs.PacedLaws.{paced-full}
+use Rattle.multiplexer.proofs.PacedLaws.{paced_full}
 use Rattle.multiplexer.proofs.PortLaws.{column_length}
 use Rattle.meter.specs.Record.{entry_of, record_from, UnderOnePlan}
 use Rattle.meter.specs.Bound.{Smooth}
-use Rattle.meter.proofs.AnswerLaws.{covers-measures}
+use Rattle.meter.proofs.AnswerLaws.{covers_measures}
 use Rattle.meter.proofs.RecordLaws.{record_none, record_next, record_length}
 use Rattle.meter.proofs.Theorem.{head_smooth}
 use Rattle.crossbar.specs.declared.state.Switch.{Switch}
@@ -29,10 +29,10 @@ use Rattle.runs.specs.Run.{Run, Happens, Follow, final_state, final_store}
 use Rattle.runs.specs.Flow.{total, slots, slots_in}
 use Rattle.runs.proofs.RunLaws.{follow_append}
 use Rattle.runs.proofs.SoundLaws.{Sound, head_near}
-use Rattle.runs.proofs.Theorem.{Known, known_start, known-run}
+use Rattle.runs.proofs.Theorem.{Known, known_start, known_run}
 use Rattle.headrecords.specs.HeadRecord.{head_record, RunsIn, OnePlan, RecordPromise}
 use Rattle.headrecords.proofs.HeadLaws.{head_at}
-use Rattle.headrecords.proofs.TurnLaws.{Turn, event-turn}
+use Rattle.headrecords.proofs.TurnLaws.{Turn, event_turn}
 use Rattle.headrecords.proofs.TurnLaws.Turn.{quiet, slot}
 
 -- a record of no slot keeps every bound
@@ -40,14 +40,14 @@ none_smooth : (flow a T : ℕ) → Smooth [] flow a T
 none_smooth flow a T =
     record {
       everywhere = λ l t some inside. absurd (omega arith);
-      measured = λ l r some covers e. absurd (omega (arith, (covers-measures [] flow l r covers e).least.inside));
+      measured = λ l r some covers e. absurd (omega (arith, (covers_measures [] flow l r covers e).least.inside));
     }
 
 -- in slot 0 a head begins its frame
 head_starts : {s : Switch} {store : List ℕ} → Sound s store → s.slot ≡ 0 → (j : ℕ) → j < s.running.ports → FrameStart (head_at s j).served s.running.ports
 head_starts {s} ok zero-slot j hj =
     record {
-      full = paced-full (ok.heads j hj);
+      full = paced_full (ok.heads j hj);
       zeros = λ i hi.
           let t = s.running.frame in
           let close : get_or (head_at s j).served i 0 * t < 1 * t = omega (arith, rw zero-slot at (head_near ok i j hi hj).early) in
@@ -65,41 +65,41 @@ module _ (run : Run) (rates : List ℕ) (j : ℕ) (hj : j < run.ports) where
   rs = column_of rates n j
 
   known_next : {s : Switch} {store : List ℕ} (e : Event) → Known run s store → Happens s store e → Known run (state_after e) (store_after store e)
-  known_next {s} {store} e k h = known-run run s store (e ∷ []) k (h, tt)
+  known_next {s} {store} e k h = known_run run s store (e ∷ []) k (h, tt)
 
-  turn-there : {s : Switch} {store : List ℕ} (e : Event) → Known run s store → Happens s store e → RunsIn rates e → Turn rs T j (head_at s j) s.slot e
-  turn-there {s} e k h runs =
+  turn_there : {s : Switch} {store : List ℕ} (e : Event) → Known run s store → Happens s store e → RunsIn rates e → Turn rs T j (head_at s j) s.slot e
+  turn_there {s} e k h runs =
       subst₂ (λ (m t : ℕ). Turn (column_of rates m j) t j (head_at s j) s.slot e) k.ports k.frame
-      (event-turn k.sound rates j (omega (arith, k.ports)) e h runs)
+      (event_turn k.sound rates j (omega (arith, k.ports)) e h runs)
 
-  record-as : (es : List Event) {m m' : Multiplexer} {t t' : ℕ} → m ≡ m' → t ≡ t'
+  record_as : (es : List Event) {m m' : Multiplexer} {t t' : ℕ} → m ≡ m' → t ≡ t'
       → head_record j es ≡ record_from m rs T t (slots es) → head_record j es ≡ record_from m' rs T t' (slots es)
-  record-as es a b rest = rw (sym a, sym b) rest
+  record_as es a b rest = rw (sym a, sym b) rest
 
   -- one event's part of the record, and the rest
-  turn-record : {m : Multiplexer} {t : ℕ} (e : Event) (es : List Event) → Turn rs T j m t e
+  turn_record : {m : Multiplexer} {t : ℕ} (e : Event) (es : List Event) → Turn rs T j m t e
       → head_record j es ≡ record_from (head_at (state_after e) j) rs T (state_after e).slot (slots es)
       → head_record j (e ∷ es) ≡ record_from m rs T t (slots (e ∷ es))
   unfolding total
-  turn-record e es (quiet none no_slot head there) rest = rw (none, no_slot, zero-add) (record-as es head there rest)
-  turn-record {m} {t} e es (slot entry one head there) rest =
+  turn_record e es (quiet none no_slot head there) rest = rw (none, no_slot, zero-add) (record_as es head there rest)
+  turn_record {m} {t} e es (slot entry one head there) rest =
       let longer : 1 + total slots_in es ≡ suc (total slots_in es) = omega arith in
-      rw (entry, one, longer, record_next m rs T t (total slots_in es)) (ap (λ (l : List ℕ). entry_of (serve_of m rs T t).choice ∷ l) (record-as es head there rest))
+      rw (entry, one, longer, record_next m rs T t (total slots_in es)) (ap (λ (l : List ℕ). entry_of (serve_of m rs T t).choice ∷ l) (record_as es head there rest))
 
   record_is : (s : Switch) (store : List ℕ) (es : List Event) → Known run s store → Follow s store es → OnePlan rates es
       → head_record j es ≡ record_from (head_at s j) rs T s.slot (slots es)
   unfolding total
   record_is s store [] k h one = sym (record_none (head_at s j) rs T s.slot)
   record_is s store (e ∷ es) k h one =
-      turn-record e es (turn-there e k h.0 one.0)
+      turn_record e es (turn_there e k h.0 one.0)
       (record_is (state_after e) (store_after store e) es (known_next e k h.0) h.1 one.1)
 
   -- a stretch with a slot in it runs an accepted plan
-  plan-there : (s : Switch) (store : List ℕ) (es : List Event) → Known run s store → Follow s store es → OnePlan rates es
+  plan_there : (s : Switch) (store : List ℕ) (es : List Event) → Known run s store → Follow s store es → OnePlan rates es
       → (head_record j es ≡ []) ⊎ IsPlan n T rates
-  plan-there s store [] k h one = inl refl
-  plan-there s store (stepped lent r ∷ es) k h one =
-      go r.verdict refl (plan-there _ _ es after h.1 one.1)
+  plan_there s store [] k h one = inl refl
+  plan_there s store (stepped lent r ∷ es) k h one =
+      go r.verdict refl (plan_there _ _ es after h.1 one.1)
     where
       after : Known run r.state store
       after = known_next (stepped lent r) k h.0
@@ -108,8 +108,8 @@ module _ (run : Run) (rates : List ℕ) (j : ℕ) (hj : j < run.ports) where
       go Accepted e rest =
           inr (subst (IsPlan n T) (one.0 e) (subst₂ (λ (m t : ℕ). IsPlan m t (plan_rates r.state.running)) after.ports after.frame after.sound.plan))
       go (Refused why) e rest = ⊎_elim (λ (none : head_record j es ≡ []). inl (rw e none)) inr rest
-  plan-there s store (arrived lent p q cell r left ∷ es) k h one = plan-there _ _ es (known_next (arrived lent p q cell r left) k h.0) h.1 one.1
-  plan-there s store (loaded m t new r ∷ es) k h one = plan-there _ _ es (known_next (loaded m t new r) k h.0) h.1 one.1
+  plan_there s store (arrived lent p q cell r left ∷ es) k h one = plan_there _ _ es (known_next (arrived lent p q cell r left) k h.0) h.1 one.1
+  plan_there s store (loaded m t new r ∷ es) k h one = plan_there _ _ es (known_next (loaded m t new r) k h.0) h.1 one.1
 
   module _ (before stretch after : List Event) (cut : run.events ≡ before ++ (stretch ++ after)) where
     abbrev s : Switch
@@ -121,15 +121,15 @@ module _ (run : Run) (rates : List ℕ) (j : ℕ) (hj : j < run.ports) where
     parts : Follow run.reply.state run.store before × Follow s store (stretch ++ after)
     parts = follow_append run.reply.state run.store before (stretch ++ after) (subst (Follow run.reply.state run.store) cut run.follow)
 
-    known-there : Known run s store
-    known-there = known-run run run.reply.state run.store before (known_start run) parts.0
+    known_there : Known run s store
+    known_there = known_run run run.reply.state run.store before (known_start run) parts.0
 
-    follow-there : Follow s store stretch
-    follow-there = (follow_append s store stretch after parts.1).0
+    follow_there : Follow s store stretch
+    follow_there = (follow_append s store stretch after parts.1).0
 
     module _ (start : s.slot ≡ 0) (one : OnePlan rates stretch) where
       from_start : head_record j stretch ≡ record_from (head_at s j) rs T 0 (slots stretch)
-      from_start = subst (λ (t : ℕ). head_record j stretch ≡ record_from (head_at s j) rs T t (slots stretch)) start (record_is s store stretch known-there follow-there one)
+      from_start = subst (λ (t : ℕ). head_record j stretch ≡ record_from (head_at s j) rs T t (slots stretch)) start (record_is s store stretch known_there follow_there one)
 
       whole : length (head_record j stretch) ≡ slots stretch
       whole = ap length from_start ∙ record_length (head_at s j) rs T 0 (slots stretch)
@@ -138,7 +138,7 @@ module _ (run : Run) (rates : List ℕ) (j : ℕ) (hj : j < run.ports) where
       made =
           record {
             port = head_at s j;
-            starts = rw (column_length rates n j, sym known-there.ports) (head_starts known-there.sound start j (omega (arith, known-there.ports)));
+            starts = rw (column_length rates n j, sym known_there.ports) (head_starts known_there.sound start j (omega (arith, known_there.ports)));
             is = rw whole from_start;
           }
 
@@ -147,7 +147,7 @@ module _ (run : Run) (rates : List ℕ) (j : ℕ) (hj : j < run.ports) where
           ⊎_elim
           (λ (none : head_record j stretch ≡ []). rw none (none_smooth i (get_or rates (flow_of n i j) 0) T))
           (λ (plan : IsPlan n T rates). head_smooth n T rates (accepts n T rates plan) i j hi hj (head_record j stretch) made)
-          (plan-there s store stretch known-there follow-there one)
+          (plan_there s store stretch known_there follow_there one)
 
 pub records_of_every_run : (run : Run) → RecordPromise run
 records_of_every_run run before stretch after cut start rates one j hj =

@@ -28,9 +28,9 @@ use Rattle.runs.specs.Run.{Happens, answered}
 use Rattle.runs.specs.Flow.{slots_in}
 use Rattle.runs.proofs.RunLaws.{happens_answered}
 use Rattle.runs.proofs.SoundLaws.{Sound}
-use Rattle.runs.proofs.TakeoverLaws.{takeover-sound}
+use Rattle.runs.proofs.TakeoverLaws.{takeover_sound}
 use Rattle.headrecords.specs.HeadRecord.{entries_in, RunsIn}
-use Rattle.headrecords.proofs.HeadLaws.{head_at, head-answers, head-after, slot-after}
+use Rattle.headrecords.proofs.HeadLaws.{head_at, head_answers, head_after_lem, slot_after}
 
 -- an event, for head j that has the rates rs of T slots and comes to slot t with the counts of m
 pub data Turn (rs : List ℕ) (T j : ℕ) (m : Multiplexer) (t : ℕ) (e : Event) : Type 0 where
@@ -47,7 +47,7 @@ turn_as a b c d turn = rw (sym a, sym b, sym c, sym d) turn
 slot_turn : {u : Switch} {store : List ℕ} → Sound u store → (lent : Lent) (list : List ℕ) (j : ℕ) → j < u.running.ports
     → Turn (column_of (plan_rates u.running) u.running.ports j) u.running.frame j (head_at u j) u.slot (stepped lent (slot_reply u list))
 slot_turn ok lent list j hj =
-    slot (ap (λ (x : ℕ). x ∷ []) (head-answers ok list j hj)) refl (head-after ok list j hj) (slot-after ok list j hj)
+    slot (ap (λ (x : ℕ). x ∷ []) (head_answers ok list j hj)) refl (head_after_lem ok list j hj) (slot_after ok list j hj)
 
 -- a takeover leaves the slot and the heads
 takeover_leaves : (s : Switch) → ((takeover_of s).slot ≡ s.slot) × ((takeover_of s).fabric ≡ s.fabric)
@@ -62,47 +62,47 @@ module _ {s : Switch} {store : List ℕ} (ok : Sound s store) (rates : List ℕ)
   Here e = Turn (column_of rates s.running.ports j) s.running.frame j (head_at s j) s.slot e
 
   -- an accepted step, by the plan that rules it
-  ruled-turn : (lent : Lent) (list : List ℕ) → plan_rates (takeover_of s).running ≡ rates → Here (stepped lent (slot_reply (takeover_of s) list))
-  ruled-turn lent list is =
+  ruled_turn : (lent : Lent) (list : List ℕ) → plan_rates (takeover_of s).running ≡ rates → Here (stepped lent (slot_reply (takeover_of s) list))
+  ruled_turn lent list is =
       let u = takeover_of s in
-      let same = (takeover-sound ok).1 in
+      let same = (takeover_sound ok).1 in
       let left = takeover_leaves s in
       turn_as (ap (λ (l : List ℕ). column_of l u.running.ports j) is ∙ ap (λ (n : ℕ). column_of rates n j) same.ports) same.frame
       (ap (λ (f : Fabric). get_or f.heads j no_multiplexer) left.1) left.0
-      (slot_turn (takeover-sound ok).0 lent list j (omega (arith, same.ports)))
+      (slot_turn (takeover_sound ok).0 lent list j (omega (arith, same.ports)))
 
-  step-turn : (lent : Lent) (list : List ℕ) → RunsIn rates (stepped lent (step_of s list)) → Here (stepped lent (step_of s list))
+  step_turn : (lent : Lent) (list : List ℕ) → RunsIn rates (stepped lent (step_of s list)) → Here (stepped lent (step_of s list))
   unfolding step_of after_slot
-  step-turn lent list runs = go (step_verdict s (length list)) refl runs
+  step_turn lent list runs = go (step_verdict s (length list)) refl runs
     where
       go : (v : Verdict) → step_verdict s (length list) ≡ v → RunsIn rates (stepped lent (step_of s list)) → Here (stepped lent (step_of s list))
-      go Accepted e runs = rw e (ruled-turn lent list (rw e at (runs e)))
+      go Accepted e runs = rw e (ruled_turn lent list (rw e at (runs e)))
       go (Refused r) e runs = rw e (quiet refl refl refl refl)
 
-  arrive-turn : (lent : Lent) (list : List ℕ) (p q cell : ℕ) → let a = arrive_of s list p q cell in Here (arrived lent p q cell a.reply a.store)
+  arrive_turn : (lent : Lent) (list : List ℕ) (p q cell : ℕ) → let a = arrive_of s list p q cell in Here (arrived lent p q cell a.reply a.store)
   unfolding arrive_of
-  arrive-turn lent list p q cell = go (arrive_verdict s (length list) p q) refl
+  arrive_turn lent list p q cell = go (arrive_verdict s (length list) p q) refl
     where
       go : (v : Verdict) → arrive_verdict s (length list) p q ≡ v → let a = arrive_of s list p q cell in Here (arrived lent p q cell a.reply a.store)
       go Accepted e = quiet refl refl (rw e refl) (rw e refl)
       go (Refused r) e = quiet refl refl (rw e refl) (rw e refl)
 
-  load-turn : (n t : ℕ) (new : List ℕ) → Here (loaded n t new (load_of s n t new))
+  load_turn : (n t : ℕ) (new : List ℕ) → Here (loaded n t new (load_of s n t new))
   unfolding load_of
-  load-turn n t new = go (load_verdict s n t new) refl
+  load_turn n t new = go (load_verdict s n t new) refl
     where
       go : (v : Verdict) → load_verdict s n t new ≡ v → Here (loaded n t new (load_of s n t new))
       go Accepted e = quiet refl refl (rw e refl) (rw e refl)
       go (Refused r) e = quiet refl refl (rw e refl) (rw e refl)
 
-  call-turn : (c : Call) → RunsIn rates (answered s store c) → Here (answered s store c)
-  call-turn (step own) runs = step-turn own store runs
-  call-turn (step (other l)) runs = step-turn (other l) l runs
-  call-turn (arrive own p q cell) runs = arrive-turn own store p q cell
-  call-turn (arrive (other l) p q cell) runs = arrive-turn (other l) l p q cell
-  call-turn (load n t new) runs = load-turn n t new
+  call_turn : (c : Call) → RunsIn rates (answered s store c) → Here (answered s store c)
+  call_turn (step own) runs = step_turn own store runs
+  call_turn (step (other l)) runs = step_turn (other l) l runs
+  call_turn (arrive own p q cell) runs = arrive_turn own store p q cell
+  call_turn (arrive (other l) p q cell) runs = arrive_turn (other l) l p q cell
+  call_turn (load n t new) runs = load_turn n t new
 
-  pub event-turn : (e : Event) → Happens s store e → RunsIn rates e → Here e
-  event-turn e h runs =
+  pub event_turn : (e : Event) → Happens s store e → RunsIn rates e → Here e
+  event_turn e h runs =
       let is = happens_answered s store e h in
-      subst Here (sym is) (call-turn (call_of e) (subst (RunsIn rates) is runs))
+      subst Here (sym is) (call_turn (call_of e) (subst (RunsIn rates) is runs))

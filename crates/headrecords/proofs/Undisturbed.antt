@@ -16,7 +16,7 @@ use Rattle.runs.specs.Event.Event.{stepped, arrived, loaded}
 use Rattle.runs.specs.Run.{Run, final_state}
 use Rattle.runs.specs.Plans.{accepted_after, last_accepted, BeginsFrame, PutsInWaiting}
 use Rattle.runs.proofs.RunLaws.{final_state_append}
-use Rattle.runs.proofs.Theorem.{start-facts, begins}
+use Rattle.runs.proofs.Theorem.{start_facts, begins}
 use Rattle.runs.proofs.PlanTheorem.{plans_of_every_run}
 use Rattle.headrecords.specs.HeadRecord.{RunsIn, OnePlan, NoLoad, UndisturbedPromise}
 use Rattle.headrecords.proofs.Theorem.{records_of_every_run}
@@ -56,12 +56,12 @@ module _ (run : Run) (none : NoLoad run.events) where
 
   first_runs : plan_rates s₀.running ≡ run.rates
   unfolding fresh_with
-  first_runs = subst (λ (s : Switch). plan_rates s.running ≡ run.rates) (sym (begins run)) (started_rates run.ports run.frame run.rates (start-facts run).plan)
+  first_runs = subst (λ (s : Switch). plan_rates s.running ≡ run.rates) (sym (begins run)) (started_rates run.ports run.frame run.rates (start_facts run).plan)
 
   -- after each event it still runs
-  still-runs : (before : List Event) (e : Event) (after : List Event) → run.events ≡ before ++ (e ∷ after)
+  still_runs : (before : List Event) (e : Event) (after : List Event) → run.events ≡ before ++ (e ∷ after)
       → plan_rates (final_state s₀ before).running ≡ run.rates → plan_rates (state_after e).running ≡ run.rates
-  still-runs before e after cut runs = go (begins_or_not (final_state s₀ before) e)
+  still_runs before e after cut runs = go (begins_or_not (final_state s₀ before) e)
     where
       go : Dec (BeginsFrame (final_state s₀ before) e) → plan_rates (state_after e).running ≡ run.rates
       go (yes b) =
@@ -70,25 +70,25 @@ module _ (run : Run) (none : NoLoad run.events) where
       go (no ne) = ap plan_rates ((plans_of_every_run run).stays before e after cut ne) ∙ runs
 
   -- a step hands the state back with the plan that ran
-  runs-in : (e : Event) → plan_rates (state_after e).running ≡ run.rates → RunsIn run.rates e
-  runs-in (stepped lent r) is = λ _. is
-  runs-in (arrived lent i j cell r left) is = tt
-  runs-in (loaded n t rates r) is = tt
+  runs_in : (e : Event) → plan_rates (state_after e).running ≡ run.rates → RunsIn run.rates e
+  runs_in (stepped lent r) is = λ _. is
+  runs_in (arrived lent i j cell r left) is = tt
+  runs_in (loaded n t rates r) is = tt
 
-  one-plan : (before rest : List Event) → run.events ≡ before ++ rest → plan_rates (final_state s₀ before).running ≡ run.rates → OnePlan run.rates rest
-  one-plan before [] cut runs = tt
-  one-plan before (e ∷ es) cut runs =
-      let after = still-runs before e es cut runs in
+  one_plan : (before rest : List Event) → run.events ≡ before ++ rest → plan_rates (final_state s₀ before).running ≡ run.rates → OnePlan run.rates rest
+  one_plan before [] cut runs = tt
+  one_plan before (e ∷ es) cut runs =
+      let after = still_runs before e es cut runs in
       let there : plan_rates (final_state s₀ (before ++ (e ∷ []))).running ≡ run.rates =
       ap (λ (s : Switch). plan_rates s.running) (final_state_append s₀ before (e ∷ [])) ∙ after in
-      (runs-in e after, one-plan (before ++ (e ∷ [])) es (cut ∙ sym (append_assoc before (e ∷ []) es)) there)
+      (runs_in e after, one_plan (before ++ (e ∷ [])) es (cut ∙ sym (append_assoc before (e ∷ []) es)) there)
 
-  starts-a-frame : s₀.slot ≡ 0
+  starts_a_frame : s₀.slot ≡ 0
   unfolding fresh_with
-  starts-a-frame = ap (λ (s : Switch). s.slot) (begins run)
+  starts_a_frame = ap (λ (s : Switch). s.slot) (begins run)
 
 pub undisturbed_runs : (run : Run) → UndisturbedPromise run
 undisturbed_runs run none j hj =
-    records_of_every_run run [] run.events [] (sym (append-nil run.events)) (omega (arith, starts-a-frame run none)) run.rates
-    (one-plan run none [] run.events refl (first_runs run none))
+    records_of_every_run run [] run.events [] (sym (append-nil run.events)) (omega (arith, starts_a_frame run none)) run.rates
+    (one_plan run none [] run.events refl (first_runs run none))
     j hj

@@ -16,8 +16,8 @@ use Rattle.meter.specs.Answer.{cover_verdict, Measures, refused_cover, CoversUnd
 use Rattle.meter.specs.Search.{or_less, or_more, kept_to, cover_of}
 use Rattle.meter.specs.declared.Measured.{Measured}
 use Rattle.meter.specs.declared.Stretch.{Stretch}
-use Rattle.meter.proofs.CoverLaws.{cover-within}
-use Rattle.meter.proofs.SearchLaws.{Order, Keeps, at_least, at_most, less_keeps, more_keeps, kept-first, first-only, first_in}
+use Rattle.meter.proofs.CoverLaws.{cover_within}
+use Rattle.meter.proofs.SearchLaws.{Order, Keeps, at_least, at_most, less_keeps, more_keeps, kept_first, first_only, first_in}
 
 or_false : (a b : Bool) → (a || b) ≡ false → (a ≡ false) × (b ≡ false)
 or_false true b e = let z : ◌≡◌ {A = ℕ} 0 1 = cc in absurd (omega arith)
@@ -43,50 +43,50 @@ module _ (recorded : List ℕ) (flow l : ℕ) where
 
   -- what is kept of all places is the first best of those inside
   found : {R : ℕ → ℕ → Type 0} → Order R → (or : Stretch → ℕ → ℕ → Stretch) → Keeps R or → l ≤ length recorded → FirstBest R (Inside recorded l) c (kept_to or c last)
-  found order or keeps h = first_in (λ t m. omega arith) (λ t m. omega arith) (kept-first order or keeps c last)
+  found order or keeps h = first_in (λ t m. omega arith) (λ t m. omega arith) (kept_first order or keeps c last)
 
-  pub kept-measures : l ≤ length recorded → Measures recorded flow l (record { verdict = Accepted; least = kept_to or_less c last; most = kept_to or_more c last })
-  kept-measures h = record { accepted = refl; least = found at_least or_less less_keeps h; most = found at_most or_more more_keeps h }
+  pub kept_measures : l ≤ length recorded → Measures recorded flow l (record { verdict = Accepted; least = kept_to or_less c last; most = kept_to or_more c last })
+  kept_measures h = record { accepted = refl; least = found at_least or_less less_keeps h; most = found at_most or_more more_keeps h }
 
-  covers-under : (v : Verdict) → (v ≡ Accepted → l ≤ length recorded)
+  covers_under : (v : Verdict) → (v ≡ Accepted → l ≤ length recorded)
       → CoversUnder v recorded flow l (if_accepted v (record { verdict = v; least = kept_to or_less c last; most = kept_to or_more c last }) (refused_cover v))
-  covers-under Accepted h = kept-measures (h refl)
-  covers-under (Refused why) h = refl
+  covers_under Accepted h = kept_measures (h refl)
+  covers_under (Refused why) h = refl
 
   only_under : (v : Verdict) (r r' : Measured) → CoversUnder v recorded flow l r → CoversUnder v recorded flow l r' → r ≡ r'
   only_under Accepted r r' m m' =
-      let least = first-only at_least (Inside recorded l) c r.least r'.least m.least m'.least in
-      let most = first-only at_most (Inside recorded l) c r.most r'.most m.most m'.most in
+      let least = first_only at_least (Inside recorded l) c r.least r'.least m.least m'.least in
+      let most = first_only at_most (Inside recorded l) c r.most r'.most m.most m'.most in
       ap (λ (v : Verdict). record { verdict = v; least = r.least; most = r.most }) (m.accepted ∙ sym m'.accepted)
       ∙ ap (λ (s : Stretch). record { verdict = r'.verdict; least = s; most = r.most }) least
       ∙ ap (λ (s : Stretch). record { verdict = r'.verdict; least = r'.least; most = s }) most
   only_under (Refused why) r r' m m' = m ∙ sym m'
 
   -- what the code answers under its verdict
-  pub covers-as : (v : Verdict) (r : Measured) → v ≡ cover_verdict (length recorded) l → CoversUnder v recorded flow l r → Covers recorded flow l r
-  covers-as v r e is = subst (λ (w : Verdict). CoversUnder w recorded flow l r) e is
+  pub covers_as : (v : Verdict) (r : Measured) → v ≡ cover_verdict (length recorded) l → CoversUnder v recorded flow l r → Covers recorded flow l r
+  covers_as v r e is = subst (λ (w : Verdict). CoversUnder w recorded flow l r) e is
 
   -- an answer that is not refused is measured
-  pub covers-measures : (r : Measured) → Covers recorded flow l r → r.verdict ≡ Accepted → Measures recorded flow l r
-  covers-measures r covers e = go (cover_verdict (length recorded) l) covers
+  pub covers_measures : (r : Measured) → Covers recorded flow l r → r.verdict ≡ Accepted → Measures recorded flow l r
+  covers_measures r covers e = go (cover_verdict (length recorded) l) covers
     where
       go : (v : Verdict) → CoversUnder v recorded flow l r → Measures recorded flow l r
       go Accepted is = is
       go (Refused why) is = absurd (refused_not_accepted why (sym (ap (λ (x : Measured). x.verdict) is) ∙ e))
 
-  pub cover-is : Covers recorded flow l (cover_of recorded flow l)
+  pub cover_is : Covers recorded flow l (cover_of recorded flow l)
   unfolding cover_of
-  cover-is = covers-under (cover_verdict (length recorded) l) (λ e. (accepted_record (length recorded) l e).0)
+  cover_is = covers_under (cover_verdict (length recorded) l) (λ e. (accepted_record (length recorded) l e).0)
 
-  pub cover-only : (r : Measured) → Covers recorded flow l r → r ≡ cover_of recorded flow l
-  cover-only r is = only_under (cover_verdict (length recorded) l) r (cover_of recorded flow l) is cover-is
+  pub cover_only : (r : Measured) → Covers recorded flow l r → r ≡ cover_of recorded flow l
+  cover_only r is = only_under (cover_verdict (length recorded) l) r (cover_of recorded flow l) is cover_is
 
   pub one_answer : OneAnswer (Covers recorded flow l)
-  one_answer = record { answer = cover_of recorded flow l; is = cover-is; only = cover-only }
+  one_answer = record { answer = cover_of recorded flow l; is = cover_is; only = cover_only }
 
 pub no_slots : (recorded : List ℕ) (flow : ℕ) → NoSlots recorded flow
 no_slots recorded flow short =
-    covers-as recorded flow 0 Accepted _ (sym (record_accepted (length recorded) 0 (omega arith) short))
+    covers_as recorded flow 0 Accepted _ (sym (record_accepted (length recorded) 0 (omega arith) short))
     record {
       accepted = refl;
       least = record { inside = omega arith; there = sym (none 0); none_better = λ t i. omega arith; none_earlier = λ t i e. omega arith };
@@ -94,4 +94,4 @@ no_slots recorded flow short =
     }
   where
     none : (t : ℕ) → cover_at recorded flow 0 t ≡ 0
-    none t = omega (arith, cover-within recorded flow 0 t)
+    none t = omega (arith, cover_within recorded flow 0 t)

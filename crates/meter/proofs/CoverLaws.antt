@@ -10,7 +10,7 @@ use lib.ListN.{get_or}
 use Rattle.plan.specs.Below.{sum_below}
 use Rattle.plan.proofs.BelowLaws.{sum_ext}
 use Rattle.meter.specs.Cover.{service_in, cover_at}
-use Rattle.meter.proofs.SumLaws.{sum-slides, sum-split, sum_first, sum_ones}
+use Rattle.meter.proofs.SumLaws.{sum_slides, sum_split, sum_first, sum_ones}
 
 pub service_le_one : (flow entry : ℕ) → service_in flow entry ≤ 1
 service_le_one flow entry = go (eqb entry flow)
@@ -25,22 +25,22 @@ at recorded flow u = service_in flow (get_or recorded u 0)
 
 module _ (recorded : List ℕ) (flow : ℕ) where
   -- the slot behind the stretch enters and its first one leaves
-  pub cover-slides : (l t : ℕ) → cover_at recorded flow l (suc t) + at recorded flow t ≡ cover_at recorded flow l t + at recorded flow (t + l)
+  pub cover_slides : (l t : ℕ) → cover_at recorded flow l (suc t) + at recorded flow t ≡ cover_at recorded flow l t + at recorded flow (t + l)
   unfolding cover_at
-  cover-slides l t = sum-slides (at recorded flow) t l
+  cover_slides l t = sum_slides (at recorded flow) t l
 
-  pub cover-within : (l t : ℕ) → cover_at recorded flow l t ≤ l
+  pub cover_within : (l t : ℕ) → cover_at recorded flow l t ≤ l
   unfolding cover_at
-  cover-within l t = sum_ones (λ u. at recorded flow (t + u)) l (λ u. service_le_one flow (get_or recorded (t + u) 0))
+  cover_within l t = sum_ones (λ u. at recorded flow (t + u)) l (λ u. service_le_one flow (get_or recorded (t + u) 0))
 
   -- the services in the first p slots
-  pub cover-first : (p : ℕ) → cover_at recorded flow p 0 ≡ sum_below (at recorded flow) p
+  pub cover_first : (p : ℕ) → cover_at recorded flow p 0 ≡ sum_below (at recorded flow) p
   unfolding cover_at
-  cover-first p = sum_ext (λ u. at recorded flow (0 + u)) (at recorded flow) p (λ u _. ap (at recorded flow) (zero-add u))
+  cover_first p = sum_ext (λ u. at recorded flow (0 + u)) (at recorded flow) p (λ u _. ap (at recorded flow) (zero-add u))
 
-  pub cover-split : (l t : ℕ) → sum_below (at recorded flow) t + cover_at recorded flow l t ≡ sum_below (at recorded flow) (t + l)
+  pub cover_split : (l t : ℕ) → sum_below (at recorded flow) t + cover_at recorded flow l t ≡ sum_below (at recorded flow) (t + l)
   unfolding cover_at
-  cover-split l t = sum-split (at recorded flow) t l
+  cover_split l t = sum_split (at recorded flow) t l
 
 -- a record's first slot and the others
 pub cover_next : (flow entry : ℕ) (rest : List ℕ) (p : ℕ)

@@ -18,13 +18,13 @@ use Rattle.multiplexer.specs.Window.{Fits, FrameStart, WindowRule}
 use Rattle.multiplexer.specs.declared.Choice.{Choice}
 use Rattle.multiplexer.specs.declared.Choice.TheVariants.{Idle, Flow}
 use Rattle.multiplexer.specs.declared.Multiplexer.{Multiplexer}
-use Rattle.multiplexer.proofs.CountLaws.{count_length, cleared-starts}
-use Rattle.multiplexer.proofs.FrameLaws.{counts-first, counts-next}
+use Rattle.multiplexer.proofs.CountLaws.{count_length, cleared_starts}
+use Rattle.multiplexer.proofs.FrameLaws.{counts_first, counts_next}
 use Rattle.meter.specs.Cover.{idle_slot, service_in}
 use Rattle.meter.specs.Record.{entry_of, next_slot, record_from, UnderOnePlan}
 use Rattle.meter.proofs.CoverLaws.{at, cover_next}
 use Rattle.meter.proofs.RecordLaws.{record_next}
-use Rattle.meter.proofs.PaceLaws.{pace-early, pace-late}
+use Rattle.meter.proofs.PaceLaws.{pace_early, pace_late}
 use Rattle.meter.proofs.BoundLaws.{Near}
 
 -- a flow's services in an entry are those of the choice
@@ -53,15 +53,15 @@ module _ (rs : List ℕ) (T : ℕ) (fits : Fits rs T) (rule : (ks : List ℕ) �
     slots : t + p ≡ q * T + u
     services : c + services_before rs ks T f t ≡ q * a + services_before rs ks' T f u
 
-  choice-is : (m : Multiplexer) (ks : List ℕ) (t : ℕ) → m.served ≡ counts_at rs ks T t → choose_of rs m.served T t ≡ choice_at rs ks T t
-  choice-is m ks t e = ap (λ (l : List ℕ). choose_of rs l T t) e
+  choice_is : (m : Multiplexer) (ks : List ℕ) (t : ℕ) → m.served ≡ counts_at rs ks T t → choose_of rs m.served T t ≡ choice_at rs ks T t
+  choice_is m ks t e = ap (λ (l : List ℕ). choose_of rs l T t) e
 
   counted : (m : Multiplexer) (ks : List ℕ) (t : ℕ) → m.served ≡ counts_at rs ks T t → counts_after m.served (choose_of rs m.served T t) ≡ counts_at rs ks T (suc t)
-  counted m ks t e = ap (λ (l : List ℕ). counts_after l (choose_of rs l T t)) e ∙ sym (counts-next rs ks T t)
+  counted m ks t e = ap (λ (l : List ℕ). counts_after l (choose_of rs l T t)) e ∙ sym (counts_next rs ks T t)
 
   -- the port after the slot, if the frame goes on and if it ends
-  begun-on : {m : Multiplexer} {ks : List ℕ} {t : ℕ} → Begun m ks t → eqb (t + 1) T ≡ false → Begun (serve_of m rs T t).port ks (suc t)
-  begun-on {m} {ks} {t} b e =
+  begun_on : {m : Multiplexer} {ks : List ℕ} {t : ℕ} → Begun m ks t → eqb (t + 1) T ≡ false → Begun (serve_of m rs T t).port ks (suc t)
+  begun_on {m} {ks} {t} b e =
       let goes_on = eqb-false (t + 1) T e in
       rw e
       record {
@@ -71,27 +71,27 @@ module _ (rs : List ℕ) (T : ℕ) (fits : Fits rs T) (rule : (ks : List ℕ) �
         in_frame = omega (arith, b.in_frame);
       }
 
-  begun-anew : {m : Multiplexer} {ks : List ℕ} {t : ℕ} → Begun m ks t → eqb (t + 1) T ≡ true → Begun (serve_of m rs T t).port (serve_of m rs T t).port.served 0
-  begun-anew {m} {ks} {t} b e =
+  begun_anew : {m : Multiplexer} {ks : List ℕ} {t : ℕ} → Begun m ks t → eqb (t + 1) T ≡ true → Begun (serve_of m rs T t).port (serve_of m rs T t).port.served 0
+  begun_anew {m} {ks} {t} b e =
       let after = counts_after m.served (choose_of rs m.served T t) in
-      let starts = cleared-starts after (length rs) (count_length m.served (choose_of rs m.served T t) ∙ b.full) fits.few_flows in
+      let starts = cleared_starts after (length rs) (count_length m.served (choose_of rs m.served T t) ∙ b.full) fits.few_flows in
       rw e
-      record { starts = starts; counts = sym (counts-first rs _ T); full = starts.full; in_frame = fits.some_slot }
+      record { starts = starts; counts = sym (counts_first rs _ T); full = starts.full; in_frame = fits.some_slot }
 
   -- the services in a slot and in those that follow
-  next-services : (m : Multiplexer) (ks : List ℕ) (t slots p : ℕ) → m.served ≡ counts_at rs ks T t
+  next_services : (m : Multiplexer) (ks : List ℕ) (t slots p : ℕ) → m.served ≡ counts_at rs ks T t
       → sum_below (at (record_from m rs T t (suc slots)) f) (suc p)
       ≡ services_of (choice_at rs ks T t) f + sum_below (at (record_from (serve_of m rs T t).port rs T (next_slot T t) slots) f) p
-  next-services m ks t slots p e =
+  next_services m ks t slots p e =
       let entry : service_in f (entry_of (choose_of rs m.served T t)) ≡ services_of (choice_at rs ks T t) f =
-      ap (λ (c : Choice). service_in f (entry_of c)) (choice-is m ks t e) ∙ entry_services (choice_at rs ks T t) f (omega (arith, fits.few_flows)) in
+      ap (λ (c : Choice). service_in f (entry_of c)) (choice_is m ks t e) ∙ entry_services (choice_at rs ks T t) f (omega (arith, fits.few_flows)) in
       ap (λ (l : List ℕ). sum_below (at l f) (suc p)) (record_next m rs T t slots)
       ∙ cover_next f (entry_of (choose_of rs m.served T t)) (record_from (serve_of m rs T t).port rs T (next_slot T t) slots) p
       ∙ ap (λ (x : ℕ). x + sum_below (at (record_from (serve_of m rs T t).port rs T (next_slot T t) slots) f) p) entry
 
   -- a slot before what has gone, in the same frame and as the last one of a frame
-  gone-on : {ks : List ℕ} {t p c : ℕ} → Gone ks (suc t) p c → Gone ks t (suc p) (services_of (choice_at rs ks T t) f + c)
-  gone-on g =
+  gone_on : {ks : List ℕ} {t p c : ℕ} → Gone ks (suc t) p c → Gone ks t (suc p) (services_of (choice_at rs ks T t) f + c)
+  gone_on g =
       record {
         q = g.q;
         u = g.u;
@@ -102,8 +102,8 @@ module _ (rs : List ℕ) (T : ℕ) (fits : Fits rs T) (rule : (ks : List ℕ) �
         services = omega (arith, g.services);
       }
 
-  gone-anew : {ks anew : List ℕ} {t p c : ℕ} → FrameStart ks (length rs) → suc t ≡ T → Gone anew 0 p c → Gone ks t (suc p) (services_of (choice_at rs ks T t) f + c)
-  gone-anew {ks} {t = t} start last g =
+  gone_anew : {ks anew : List ℕ} {t p c : ℕ} → FrameStart ks (length rs) → suc t ≡ T → Gone anew 0 p c → Gone ks t (suc p) (services_of (choice_at rs ks T t) f + c)
+  gone_anew {ks} {t = t} start last g =
       record {
         q = g.q + 1;
         u = g.u;
@@ -118,18 +118,18 @@ module _ (rs : List ℕ) (T : ℕ) (fits : Fits rs T) (rule : (ks : List ℕ) �
   gone slots m ks t b zero l =
       record { q = 0; u = t; ks' = ks; starts = b.starts; in_frame = omega (arith, b.in_frame); slots = omega arith; services = omega arith }
   gone zero m ks t b (suc p) l = absurd (omega arith)
-  gone (suc slots) m ks t b (suc p) l = rw (next-services m ks t slots p b.counts) (go (λ m' ks' t' b'. gone slots m' ks' t' b' p (omega arith)) (eqb (t + 1) T) refl)
+  gone (suc slots) m ks t b (suc p) l = rw (next_services m ks t slots p b.counts) (go (λ m' ks' t' b'. gone slots m' ks' t' b' p (omega arith)) (eqb (t + 1) T) refl)
     where
       go : ((m' : Multiplexer) (ks' : List ℕ) (t' : ℕ) → Begun m' ks' t' → Gone ks' t' p (sum_below (at (record_from m' rs T t' slots) f) p))
           → (e : Bool) → eqb (t + 1) T ≡ e
           → Gone ks t (suc p) (services_of (choice_at rs ks T t) f + sum_below (at (record_from (serve_of m rs T t).port rs T (next_slot T t) slots) f) p)
       go rest false e =
           let slot : next_slot T t ≡ suc t = rw e (add-one t) in
-          rw slot (gone-on (rest (serve_of m rs T t).port ks (suc t) (begun-on b e)))
+          rw slot (gone_on (rest (serve_of m rs T t).port ks (suc t) (begun_on b e)))
       go rest true e =
           let slot : next_slot T t ≡ 0 = rw e refl in
           let last : suc t ≡ T = sym (add-one t) ∙ eqb-true (t + 1) T e in
-          rw slot (gone-anew b.starts last (rest (serve_of m rs T t).port (serve_of m rs T t).port.served 0 (begun-anew b e)))
+          rw slot (gone_anew b.starts last (rest (serve_of m rs T t).port (serve_of m rs T t).port.served 0 (begun_anew b e)))
 
   -- the services in the first p slots of a record
   near : {c p : ℕ} {ks : List ℕ} → Gone ks 0 p c → Near T a c p
@@ -139,16 +139,16 @@ module _ (rs : List ℕ) (T : ℕ) (fits : Fits rs T) (rule : (ks : List ℕ) �
       let services : c ≡ g.q * a + services_before rs g.ks' T f g.u = omega (arith, g.services) in
       rw (slots, services)
       record {
-        early = omega (arith, pace-early rs g.ks' T f held below g.u g.in_frame);
-        late = omega (arith, pace-late rs g.ks' T f held below g.u g.in_frame fits.some_slot);
+        early = omega (arith, pace_early rs g.ks' T f held below g.u g.in_frame);
+        late = omega (arith, pace_late rs g.ks' T f held below g.u g.in_frame fits.some_slot);
       }
 
   module _ (recorded : List ℕ) (made : UnderOnePlan rs T recorded) where
     begun : Begun made.port made.port.served 0
-    begun = record { starts = made.starts; counts = sym (counts-first rs _ T); full = made.starts.full; in_frame = fits.some_slot }
+    begun = record { starts = made.starts; counts = sym (counts_first rs _ T); full = made.starts.full; in_frame = fits.some_slot }
 
     -- the last of these services began its window before they ended, and the next one ends it after
-    pub near-there : (p : ℕ) → p ≤ length recorded → Near T a (sum_below (at recorded f) p) p
-    near-there p l =
+    pub near_there : (p : ℕ) → p ≤ length recorded → Near T a (sum_below (at recorded f) p) p
+    near_there p l =
         subst (λ (xs : List ℕ). Near T a (sum_below (at xs f) p) p) (sym made.is)
         (near (gone (length recorded) made.port made.port.served 0 begun p l))

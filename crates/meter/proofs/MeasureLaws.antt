@@ -9,8 +9,8 @@ use Rattle.meter.specs.Cover.{cover_at}
 use Rattle.meter.specs.Answer.{Measures}
 use Rattle.meter.specs.Search.{or_less, or_more, kept_to}
 use Rattle.meter.specs.declared.Stretch.{Stretch}
-use Rattle.meter.proofs.CoverLaws.{at, cover-slides}
-use Rattle.meter.proofs.AnswerLaws.{kept-measures}
+use Rattle.meter.proofs.CoverLaws.{at, cover_slides}
+use Rattle.meter.proofs.AnswerLaws.{kept_measures}
 
 module _ (recorded : List ℕ) (flow l : ℕ) where
   abbrev c : ℕ → ℕ
@@ -22,23 +22,23 @@ module _ (recorded : List ℕ) (flow l : ℕ) where
     pub fewest : least ≡ kept_to or_less c (p - 1)
     pub largest : most ≡ kept_to or_more c (p - 1)
 
-  pub looked-first : (services : ℕ) → services ≡ c 0 → Looked 1 services (record { services = services; place = 0 }) (record { services = services; place = 0 })
+  pub looked_first : (services : ℕ) → services ≡ c 0 → Looked 1 services (record { services = services; place = 0 }) (record { services = services; place = 0 })
   unfolding kept_to
-  looked-first services e = record { some = omega arith; here = e; fewest = rw e refl; largest = rw e refl }
+  looked_first services e = record { some = omega arith; here = e; fewest = rw e refl; largest = rw e refl }
 
   -- the services at the place before p, with the slot that enters, are those at p with the slot that leaves
-  pub looked-slides : (p : ℕ) → 1 ≤ p → c p + at recorded flow (p - 1) ≡ c (p - 1) + at recorded flow (p + l - 1)
-  looked-slides zero pos = absurd (omega arith)
-  looked-slides (suc q) pos =
+  pub looked_slides : (p : ℕ) → 1 ≤ p → c p + at recorded flow (p - 1) ≡ c (p - 1) + at recorded flow (p + l - 1)
+  looked_slides zero pos = absurd (omega arith)
+  looked_slides (suc q) pos =
       let place : suc q + l - 1 ≡ q + l = omega arith in
       let before : suc q - 1 ≡ q = omega arith in
-      rw (place, before) (cover-slides recorded flow l q)
+      rw (place, before) (cover_slides recorded flow l q)
 
-  pub looked-next : (p : ℕ) {services here : ℕ} {least most fewest largest : Stretch} → Looked p services least most
+  pub looked_next : (p : ℕ) {services here : ℕ} {least most fewest largest : Stretch} → Looked p services least most
       → here ≡ c p → fewest ≡ or_less least here p → largest ≡ or_more most here p → Looked (p + 1) here fewest largest
   unfolding kept_to
-  looked-next zero k e f g = absurd (omega (arith, k.some))
-  looked-next (suc q) k e f g =
+  looked_next zero k e f g = absurd (omega (arith, k.some))
+  looked_next (suc q) k e f g =
       let before : suc q - 1 ≡ q = omega arith in
       let now : suc q + 1 - 1 ≡ suc q = omega arith in
       record {
@@ -48,8 +48,8 @@ module _ (recorded : List ℕ) (flow l : ℕ) where
         largest = rw (g, e, now, k.largest, before) refl;
       }
 
-  pub looked-all : {p services : ℕ} {least most : Stretch} → Looked p services least most → l ≤ length recorded → p ≡ length recorded + 1 - l
+  pub looked_all : {p services : ℕ} {least most : Stretch} → Looked p services least most → l ≤ length recorded → p ≡ length recorded + 1 - l
       → Measures recorded flow l (record { verdict = Accepted; least = least; most = most })
-  looked-all {p} k h e =
+  looked_all {p} k h e =
       let last : p - 1 ≡ length recorded - l = omega arith in
-      rw (k.fewest, k.largest, last) (kept-measures recorded flow l h)
+      rw (k.fewest, k.largest, last) (kept_measures recorded flow l h)

@@ -96,20 +96,20 @@ module _ {R : ℕ → ℕ → Type 0} (order : Order R) where
                   (λ _. omega arith);
             }
 
-    pub kept-first : (p : ℕ) → FirstBest R (Upto p) c (kept_to or c p)
+    pub kept_first : (p : ℕ) → FirstBest R (Upto p) c (kept_to or c p)
     unfolding kept_to
-    kept-first zero =
+    kept_first zero =
         record {
           inside = omega arith;
           there = refl;
           none_better = λ t l. let e : 0 ≡ t = omega arith in subst (λ (u : ℕ). R (c u) (c 0)) e (order.itself (c 0));
           none_earlier = λ t l e. omega arith;
         }
-    kept-first (suc p) = first_next (kept_to or c p) p (kept-first p)
+    kept_first (suc p) = first_next (kept_to or c p) p (kept_first p)
 
   -- there is one first best
-  pub first-only : (In : ℕ → Type 0) (c : ℕ → ℕ) (s s' : Stretch) → FirstBest R In c s → FirstBest R In c s' → s ≡ s'
-  first-only In c s s' b b' =
+  pub first_only : (In : ℕ → Type 0) (c : ℕ → ℕ) (s s' : Stretch) → FirstBest R In c s → FirstBest R In c s' → s ≡ s'
+  first_only In c s s' b b' =
       let worse : R s'.services s.services = subst (λ (x : ℕ). R x s.services) (sym b'.there) (b.none_better s'.place b'.inside) in
       let better : R s.services s'.services = subst (λ (x : ℕ). R x s'.services) (sym b.there) (b'.none_better s.place b.inside) in
       let same : s.services ≡ s'.services = order.both s.services s'.services better worse in

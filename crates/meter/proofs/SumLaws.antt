@@ -8,20 +8,20 @@ use Rattle.plan.proofs.BelowLaws.{sum_mono, sum_const}
 
 module _ (x : ℕ → ℕ) where
   -- one place further on: one term enters and one leaves
-  pub sum-slides : (t l : ℕ) → sum_below (λ u. x (suc t + u)) l + x t ≡ sum_below (λ u. x (t + u)) l + x (t + l)
-  sum-slides t zero = omega (arith, ap x (add-zero t))
-  sum-slides t (suc l) = let same : suc t + l ≡ t + suc l = omega arith in omega (arith, sum-slides t l, ap x same)
+  pub sum_slides : (t l : ℕ) → sum_below (λ u. x (suc t + u)) l + x t ≡ sum_below (λ u. x (t + u)) l + x (t + l)
+  sum_slides t zero = omega (arith, ap x (add-zero t))
+  sum_slides t (suc l) = let same : suc t + l ≡ t + suc l = omega arith in omega (arith, sum_slides t l, ap x same)
 
-  pub sum-split : (t l : ℕ) → sum_below x t + sum_below (λ u. x (t + u)) l ≡ sum_below x (t + l)
-  sum-split t zero = rw (add-zero t) (omega arith)
-  sum-split t (suc l) = rw (add-suc t l) (omega (arith, sum-split t l))
+  pub sum_split : (t l : ℕ) → sum_below x t + sum_below (λ u. x (t + u)) l ≡ sum_below x (t + l)
+  sum_split t zero = rw (add-zero t) (omega arith)
+  sum_split t (suc l) = rw (add-suc t l) (omega (arith, sum_split t l))
 
   pub sum_first : (n : ℕ) → sum_below x (suc n) ≡ x 0 + sum_below (λ u. x (suc u)) n
   sum_first zero = omega arith
   sum_first (suc n) = omega (arith, sum_first n)
 
-  pub sum-grows : (m n : ℕ) → m ≤ n → sum_below x m ≤ sum_below x n
-  sum-grows m n l = let e : m + (n - m) ≡ n = omega arith in omega (arith, sum-split m (n - m), ap (sum_below x) e)
+  pub sum_grows : (m n : ℕ) → m ≤ n → sum_below x m ≤ sum_below x n
+  sum_grows m n l = let e : m + (n - m) ≡ n = omega arith in omega (arith, sum_split m (n - m), ap (sum_below x) e)
 
 -- terms of at most 1
 pub sum_ones : (x : ℕ → ℕ) (n : ℕ) → ((k : ℕ) → x k ≤ 1) → sum_below x n ≤ n

@@ -15,10 +15,10 @@ use Rattle.meter.specs.Answer.{Covers}
 use Rattle.meter.specs.Record.{UnderOnePlan}
 use Rattle.meter.specs.Bound.{WithinBounds, Smooth, SmoothByWindows, SmoothHeads}
 use Rattle.meter.specs.declared.Measured.{Measured}
-use Rattle.meter.proofs.CoverLaws.{at, cover-split}
-use Rattle.meter.proofs.AnswerLaws.{covers-measures}
-use Rattle.meter.proofs.FrameLaws.{near-there}
-use Rattle.meter.proofs.BoundLaws.{Near, near-most, near-least}
+use Rattle.meter.proofs.CoverLaws.{at, cover_split}
+use Rattle.meter.proofs.AnswerLaws.{covers_measures}
+use Rattle.meter.proofs.FrameLaws.{near_there}
+use Rattle.meter.proofs.BoundLaws.{Near, near_most, near_least}
 
 module _ (rs : List ℕ) (T : ℕ) (fits : Fits rs T) (rule : (ks : List ℕ) → FrameStart ks (length rs) → WindowRule rs ks T) (f : ℕ) (below : f < length rs)
     (recorded : List ℕ) (made : UnderOnePlan rs T recorded) where
@@ -29,21 +29,21 @@ module _ (rs : List ℕ) (T : ℕ) (fits : Fits rs T) (rule : (ks : List ℕ) �
   abbrev C : ℕ → ℕ
   C p = sum_below (at recorded f) p
 
-  near-at : (p : ℕ) → p ≤ length recorded → Near T a (C p) p
-  near-at p l = near-there rs T fits rule f below recorded made p l
+  near_at : (p : ℕ) → p ≤ length recorded → Near T a (C p) p
+  near_at p l = near_there rs T fits rule f below recorded made p l
 
   everywhere : (l t : ℕ) → 1 ≤ l → Inside recorded l t → WithinBounds l a T (cover_at recorded f l t) (cover_at recorded f l t)
   everywhere l t some inside =
-      let begin = near-at t (omega arith) in
-      let end : Near T a (C t + cover_at recorded f l t) (t + l) = rw (cover-split recorded f l t) (near-at (t + l) inside) in
+      let begin = near_at t (omega arith) in
+      let end : Near T a (C t + cover_at recorded f l t) (t + l) = rw (cover_split recorded f l t) (near_at (t + l) inside) in
       record {
-        at_least = near-least T a (C t) t l (cover_at recorded f l t) fits.some_slot begin end;
-        at_most = near-most T a (C t) t l (cover_at recorded f l t) fits.some_slot begin end some;
+        at_least = near_least T a (C t) t l (cover_at recorded f l t) fits.some_slot begin end;
+        at_most = near_most T a (C t) t l (cover_at recorded f l t) fits.some_slot begin end some;
       }
 
   measured : (l : ℕ) (r : Measured) → 1 ≤ l → Covers recorded f l r → r.verdict ≡ Accepted → WithinBounds l a T r.least.services r.most.services
   measured l r some covers e =
-      let m = covers-measures recorded f l r covers e in
+      let m = covers_measures recorded f l r covers e in
       record {
         at_least = rw m.least.there (everywhere l r.least.place some m.least.inside).at_least;
         at_most = rw m.most.there (everywhere l r.most.place some m.most.inside).at_most;

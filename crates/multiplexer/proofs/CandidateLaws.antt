@@ -11,7 +11,7 @@ use borrow.Author.Tests.{ltb-true, ltb-false, lt-ltb, le-ltb}
 use Rattle.multiplexer.specs.Choose.{eligible, deadline, rate_at, eligible_at, deadline_at, goes_before_choice, better}
 use Rattle.multiplexer.specs.Candidate.{never, most_rate, rank_of, Soonest, or_flow}
 use Rattle.multiplexer.proofs.RoundLaws.{quotient_rounded}
-use Rattle.multiplexer.proofs.RankLaws.{rank-tells, rank_eligible, rank_never}
+use Rattle.multiplexer.proofs.RankLaws.{rank_tells, rank_eligible, rank_never}
 use Rattle.multiplexer.proofs.NumberLaws.{number_of}
 use Rattle.multiplexer.proofs.ChoiceLaws.{is_eligible, ineligible}
 use Rattle.multiplexer.specs.declared.Candidate.{Candidate}
@@ -20,14 +20,14 @@ use Rattle.multiplexer.specs.declared.Choice.TheVariants.{Idle, Flow}
 
 -- what the tests of a flow make of it
 module _ (a k T t : ℕ) (told_apart : deadline a k T < never) (fits : a ≤ most_rate) where
-  pub not-soon : (a ≡ 0) ⊎ (t * a < k * T) → Soonest a k T t never
-  not-soon h = record { is = rw (ineligible a k T t h) refl; told_apart = told_apart; fits = fits }
+  pub not_soon : (a ≡ 0) ⊎ (t * a < k * T) → Soonest a k T t never
+  not_soon h = record { is = rw (ineligible a k T t h) refl; told_apart = told_apart; fits = fits }
 
   pub soon : 0 < a → k * T ≤ t * a → (r : ℕ) → r ≡ deadline a k T → Soonest a k T t r
   soon pos may r e = record { is = e ∙ (rw (is_eligible a k T t pos may) refl); told_apart = told_apart; fits = fits }
 
-  pub some-time : 0 < a → k * T ≤ t * a → (y r : ℕ) → y ≡ (k + 1) * T + (a - 1) → r ≡ y / a → Soonest a k T t r
-  some-time pos may y r e q = soon pos may r (q ∙ quotient_rounded ((k + 1) * T) y a e)
+  pub some_time : 0 < a → k * T ≤ t * a → (y r : ℕ) → y ≡ (k + 1) * T + (a - 1) → r ≡ y / a → Soonest a k T t r
+  some_time pos may y r e q = soon pos may r (q ∙ quotient_rounded ((k + 1) * T) y a e)
 
 pub soonest_small : (a k T t r : ℕ) → Soonest a k T t r → r ≤ never
 soonest_small a k T t r s = go (eligible a k T t) s.is
@@ -37,57 +37,57 @@ soonest_small a k T t r s = go (eligible a k T t) s.is
     go false e = omega arith
 
 module _ (c : Candidate) (f d a : ℕ) where
-  pub or-flow-stays : c.rank ≤ rank_of d a → or_flow c f d a ≡ c
+  pub or_flow_stays : c.rank ≤ rank_of d a → or_flow c f d a ≡ c
   unfolding or_flow
-  or-flow-stays l = rw (le-ltb (rank_of d a) c.rank l) refl
+  or_flow_stays l = rw (le-ltb (rank_of d a) c.rank l) refl
 
-  pub or-flow-changes : rank_of d a < c.rank → or_flow c f d a ≡ record { flow = f; rank = rank_of d a }
+  pub or_flow_changes : rank_of d a < c.rank → or_flow c f d a ≡ record { flow = f; rank = rank_of d a }
   unfolding or_flow
-  or-flow-changes l = rw (lt-ltb (rank_of d a) c.rank l) refl
+  or_flow_changes l = rw (lt-ltb (rank_of d a) c.rank l) refl
 
 module _ (rs ks : List ℕ) (T : ℕ) where
   -- `Idle` is kept as a flow with the highest rate that is not eligible
-  abbrev deadlineOf : Choice → ℕ
-  deadlineOf Idle = never
-  deadlineOf (Flow f) = deadline_at rs ks T f
+  abbrev deadline_of : Choice → ℕ
+  deadline_of Idle = never
+  deadline_of (Flow f) = deadline_at rs ks T f
 
-  abbrev rateOf : Choice → ℕ
-  rateOf Idle = most_rate
-  rateOf (Flow f) = rate_at rs f
+  abbrev rate_of : Choice → ℕ
+  rate_of Idle = most_rate
+  rate_of (Flow f) = rate_at rs f
 
   -- a choice's number with its rank
   abbrev pub candidate : Choice → Candidate
-  candidate c = record { flow = number_of c; rank = rank_of (deadlineOf c) (rateOf c) }
+  candidate c = record { flow = number_of c; rank = rank_of (deadline_of c) (rate_of c) }
 
   -- the code keeps choice c as b
   pub record Kept (b : Candidate) (c : Choice) : Type 0 where
     pub is : b ≡ candidate c
-    pub within : rank_of (deadlineOf c) (rateOf c) ≤ rank_of never most_rate
-    pub fits : rateOf c ≤ most_rate
+    pub within : rank_of (deadline_of c) (rate_of c) ≤ rank_of never most_rate
+    pub fits : rate_of c ≤ most_rate
 
-  pub kept-none : Kept (candidate Idle) Idle
-  kept-none = record { is = refl; within = omega arith; fits = omega arith }
+  pub kept_none : Kept (candidate Idle) Idle
+  kept_none = record { is = refl; within = omega arith; fits = omega arith }
 
   -- an eligible flow goes before a choice if its rank is smaller
-  rank-choice : (n : ℕ) (c : Choice) → deadline_at rs ks T n < never → rate_at rs n ≤ most_rate → rateOf c ≤ most_rate
-      → ltb (rank_of (deadline_at rs ks T n) (rate_at rs n)) (rank_of (deadlineOf c) (rateOf c)) ≡ goes_before_choice rs ks T n c
-  rank-choice n Idle told_apart fits _ = lt-ltb _ _ (rank_eligible (deadline_at rs ks T n) (rate_at rs n) told_apart)
-  rank-choice n (Flow f) told_apart fits kept = rank-tells (deadline_at rs ks T n) (rate_at rs n) (deadline_at rs ks T f) (rate_at rs f) fits kept
+  rank_choice : (n : ℕ) (c : Choice) → deadline_at rs ks T n < never → rate_at rs n ≤ most_rate → rate_of c ≤ most_rate
+      → ltb (rank_of (deadline_at rs ks T n) (rate_at rs n)) (rank_of (deadline_of c) (rate_of c)) ≡ goes_before_choice rs ks T n c
+  rank_choice n Idle told_apart fits _ = lt-ltb _ _ (rank_eligible (deadline_at rs ks T n) (rate_at rs n) told_apart)
+  rank_choice n (Flow f) told_apart fits kept = rank_tells (deadline_at rs ks T n) (rate_at rs n) (deadline_at rs ks T f) (rate_at rs f) fits kept
 
   module _ (n d : ℕ) (b : Candidate) (c : Choice) (kept : Kept b c) where
-    kept-stays : rank_of (deadlineOf c) (rateOf c) ≤ rank_of d (rate_at rs n) → Kept (or_flow b n d (rate_at rs n)) c
-    kept-stays l =
+    kept_stays : rank_of (deadline_of c) (rate_of c) ≤ rank_of d (rate_at rs n) → Kept (or_flow b n d (rate_at rs n)) c
+    kept_stays l =
         record {
-          is = or-flow-stays b n d (rate_at rs n) (rw kept.is l) ∙ kept.is;
+          is = or_flow_stays b n d (rate_at rs n) (rw kept.is l) ∙ kept.is;
           within = kept.within;
           fits = kept.fits;
         }
 
-    kept-changes : d ≡ deadline_at rs ks T n → rate_at rs n ≤ most_rate → rank_of d (rate_at rs n) < rank_of (deadlineOf c) (rateOf c)
+    kept_changes : d ≡ deadline_at rs ks T n → rate_at rs n ≤ most_rate → rank_of d (rate_at rs n) < rank_of (deadline_of c) (rate_of c)
         → Kept (or_flow b n d (rate_at rs n)) (Flow n)
-    kept-changes is fits l =
+    kept_changes is fits l =
         record {
-          is = or-flow-changes b n d (rate_at rs n) (rw kept.is l) ∙ (rw is refl);
+          is = or_flow_changes b n d (rate_at rs n) (rw kept.is l) ∙ (rw is refl);
           within = omega (arith, kept.within, is);
           fits = fits;
         }
@@ -97,13 +97,13 @@ module _ (rs ks : List ℕ) (T : ℕ) where
     unfolding better
     kept_next t s = go (eligible_at rs ks T t n) (goes_before_choice rs ks T n c) refl refl
       where
-        told : d ≡ deadline_at rs ks T n → ltb (rank_of d (rate_at rs n)) (rank_of (deadlineOf c) (rateOf c)) ≡ goes_before_choice rs ks T n c
-        told is = rw is (rank-choice n c s.told_apart s.fits kept.fits)
+        told : d ≡ deadline_at rs ks T n → ltb (rank_of d (rate_at rs n)) (rank_of (deadline_of c) (rate_of c)) ≡ goes_before_choice rs ks T n c
+        told is = rw is (rank_choice n c s.told_apart s.fits kept.fits)
 
         go : (x y : Bool) → eligible_at rs ks T t n ≡ x → goes_before_choice rs ks T n c ≡ y
             → Kept (or_flow b n d (rate_at rs n)) (cond (x && y) (Flow n) c)
-        go true true may first = let is : d ≡ deadline_at rs ks T n = s.is ∙ (rw may refl) in kept-changes is s.fits (ltb-true _ _ (told is ∙ first))
-        go true false may first = let is : d ≡ deadline_at rs ks T n = s.is ∙ (rw may refl) in kept-stays (ltb-false _ _ (told is ∙ first))
+        go true true may first = let is : d ≡ deadline_at rs ks T n = s.is ∙ (rw may refl) in kept_changes is s.fits (ltb-true _ _ (told is ∙ first))
+        go true false may first = let is : d ≡ deadline_at rs ks T n = s.is ∙ (rw may refl) in kept_stays (ltb-false _ _ (told is ∙ first))
         go false y out first =
             let is : d ≡ never = s.is ∙ (rw out refl) in
-            kept-stays (omega (arith, kept.within, rank_never (rate_at rs n), is))
+            kept_stays (omega (arith, kept.within, rank_never (rate_at rs n), is))

@@ -6,10 +6,10 @@ use Rattle.multiplexer.specs.Count.{counts_after}
 use Rattle.multiplexer.specs.Frame.{counts_at, choice_at}
 
 module _ (rs ks : List ℕ) (T : ℕ) where
-  pub counts-first : counts_at rs ks T 0 ≡ ks
+  pub counts_first : counts_at rs ks T 0 ≡ ks
   unfolding counts_at
-  counts-first = refl
+  counts_first = refl
 
-  pub counts-next : (t : ℕ) → counts_at rs ks T (suc t) ≡ counts_after (counts_at rs ks T t) (choice_at rs ks T t)
+  pub counts_next : (t : ℕ) → counts_at rs ks T (suc t) ≡ counts_after (counts_at rs ks T t) (choice_at rs ks T t)
   unfolding counts_at
-  counts-next t = refl
+  counts_next t = refl

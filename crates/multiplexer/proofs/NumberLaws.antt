@@ -17,7 +17,7 @@ use Rattle.multiplexer.specs.Count.{one_more, counts_after}
 use Rattle.multiplexer.specs.Candidate.{choice_of}
 use Rattle.multiplexer.specs.declared.Choice.{Choice}
 use Rattle.multiplexer.specs.declared.Choice.TheVariants.{Idle, Flow}
-use Rattle.multiplexer.proofs.ChoiceLaws.{choose-is}
+use Rattle.multiplexer.proofs.ChoiceLaws.{choose_is}
 use Rattle.multiplexer.proofs.CountLaws.{count_idle, count_length, count_other}
 
 -- the number of a choice
@@ -35,7 +35,7 @@ idle_choice f l = simp (le-ltb f most_ports l)
 
 -- no choice is lost as a number
 pub number_chosen : (rs ks : List ℕ) (T t : ℕ) → choice_of (number_of (choose_of rs ks T t)) ≡ choose_of rs ks T t
-number_chosen rs ks T t = go (choose_of rs ks T t) (choose-is rs ks T t)
+number_chosen rs ks T t = go (choose_of rs ks T t) (choose_is rs ks T t)
   where
     go : (c : Choice) → IsChoice rs ks T t (flows_of rs) c → choice_of (number_of c) ≡ c
     go Idle none = idle_choice most_ports (omega arith)
@@ -43,10 +43,10 @@ number_chosen rs ks T t = go (choose_of rs ks T t) (choose-is rs ks T t)
 
 module _ (ks : List ℕ) (flow : ℕ) where
   -- the count of flow g after the service
-  abbrev countAt : ℕ → ℕ
-  countAt g = cond (eqb g flow) (one_more (get_or ks g 0)) (get_or ks g 0)
+  abbrev count_of_flow : ℕ → ℕ
+  count_of_flow g = cond (eqb g flow) (one_more (get_or ks g 0)) (get_or ks g 0)
 
-  count_at : (g : ℕ) → length ks ≡ most_ports → g < most_ports → get_or (counts_after ks (choice_of flow)) g 0 ≡ countAt g
+  count_at : (g : ℕ) → length ks ≡ most_ports → g < most_ports → get_or (counts_after ks (choice_of flow)) g 0 ≡ count_of_flow g
   unfolding counts_after
   count_at g full l =
       ⊎_elim
@@ -54,22 +54,22 @@ module _ (ks : List ℕ) (flow : ℕ) where
       (λ (b : most_ports ≤ flow). rw (idle_choice flow b, count_idle ks, ne_eqb g flow (λ e. omega arith)) refl)
       (lt_or_le flow most_ports)
     where
-      chosen : flow < most_ports → Dec (g ≡ flow) → get_or (counts_after ks (Flow flow)) g 0 ≡ countAt g
+      chosen : flow < most_ports → Dec (g ≡ flow) → get_or (counts_after ks (Flow flow)) g 0 ≡ count_of_flow g
       chosen b (yes e) = rw (eq-eqb g flow e, e) (get_or-set_same ks flow _ 0 (omega (arith, full)))
       chosen b (no ne) = rw (ne_eqb g flow ne) (count_other ks flow g ne)
 
   -- the counts of the flows below n are made
   abbrev pub CountedBelow : ℕ → List ℕ → Type 0
-  CountedBelow n after = (g : ℕ) → g < n → get_or after g 0 ≡ countAt g
+  CountedBelow n after = (g : ℕ) → g < n → get_or after g 0 ≡ count_of_flow g
 
-  pub counted_next : (n : ℕ) (after : List ℕ) → n < length after → CountedBelow n after → CountedBelow (suc n) (set after n (countAt n))
+  pub counted_next : (n : ℕ) (after : List ℕ) → n < length after → CountedBelow n after → CountedBelow (suc n) (set after n (count_of_flow n))
   counted_next n after room made g l =
       ⊎_elim
-      (λ (b : g < n). get_or-set_other after n g (countAt n) 0 (λ e. omega arith) ∙ made g b)
-      (λ (e : g ≡ n). rw e (get_or-set_same after n (countAt n) 0 room))
+      (λ (b : g < n). get_or-set_other after n g (count_of_flow n) 0 (λ e. omega arith) ∙ made g b)
+      (λ (e : g ≡ n). rw e (get_or-set_same after n (count_of_flow n) 0 room))
       (below_or_last g n l)
 
-  pub counted-all : (after : List ℕ) → length ks ≡ most_ports → length after ≡ most_ports → CountedBelow most_ports after → after ≡ counts_after ks (choice_of flow)
-  counted-all after full len made =
+  pub counted_all : (after : List ℕ) → length ks ≡ most_ports → length after ≡ most_ports → CountedBelow most_ports after → after ≡ counts_after ks (choice_of flow)
+  counted_all after full len made =
       ext_get_or 0 after (counts_after ks (choice_of flow)) (omega (arith, len, full, count_length ks (choice_of flow)))
       (λ g l. made g (omega (arith, len)) ∙ sym (count_at g full (omega (arith, len))))

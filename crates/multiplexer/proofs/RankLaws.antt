@@ -8,7 +8,7 @@ use borrow.Author.Tests.{lt-ltb, le-ltb}
 use Rattle.plan.proofs.BelowLaws.{lt_or_le}
 use Rattle.multiplexer.specs.Choose.{goes_before}
 use Rattle.multiplexer.specs.Candidate.{never, most_rate, rank_of}
-use Rattle.multiplexer.proofs.ChoiceLaws.{before-case}
+use Rattle.multiplexer.proofs.ChoiceLaws.{before_case}
 
 module _ (d a e b : ℕ) (ha : a ≤ most_rate) (hb : b ≤ most_rate) where
   -- on equal deadlines the larger rate has the smaller rank
@@ -19,9 +19,9 @@ module _ (d a e b : ℕ) (ha : a ≤ most_rate) (hb : b ≤ most_rate) where
       (λ (l : a ≤ b). le-ltb (rank_of d a) (rank_of e b) (omega arith) ∙ sym (le-ltb b a l))
       (lt_or_le b a)
 
-  pub rank-tells : ltb (rank_of d a) (rank_of e b) ≡ goes_before d a e b
-  rank-tells =
-      before-case d a e b (λ x. ltb (rank_of d a) (rank_of e b) ≡ x)
+  pub rank_tells : ltb (rank_of d a) (rank_of e b) ≡ goes_before d a e b
+  rank_tells =
+      before_case d a e b (λ x. ltb (rank_of d a) (rank_of e b) ≡ x)
       (λ l. lt-ltb (rank_of d a) (rank_of e b) (omega arith))
       tie
       (λ l. le-ltb (rank_of d a) (rank_of e b) (omega arith))

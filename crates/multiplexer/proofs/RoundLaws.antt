@@ -13,27 +13,27 @@ unfolding rounded_up
 quotient_rounded x y a e = ap (λ (z : ℕ). z / a) e
 
 module _ (x a D : ℕ) (pos : 0 < a) where
-  rounded-lt : x + a ≤ D * a → rounded_up x a < D
+  rounded_lt : x + a ≤ D * a → rounded_up x a < D
   unfolding rounded_up
-  rounded-lt h = (div-lt_iff_lt-mul {k = a} {x = x + (a - 1)} {y = D} pos).1 (omega arith)
+  rounded_lt h = (div-lt_iff_lt-mul {k = a} {x = x + (a - 1)} {y = D} pos).1 (omega arith)
 
-  lt-rounded : rounded_up x a < D → x + a ≤ D * a
+  lt_rounded : rounded_up x a < D → x + a ≤ D * a
   unfolding rounded_up
-  lt-rounded h = omega (arith, (div-lt_iff_lt-mul {k = a} {x = x + (a - 1)} {y = D} pos).0 h)
+  lt_rounded h = omega (arith, (div-lt_iff_lt-mul {k = a} {x = x + (a - 1)} {y = D} pos).0 h)
 
 module _ (x a D : ℕ) (pos : 0 < a) where
   -- x / a rounded up is at most D exactly where x is at most D × a
-  pub rounded-le : x ≤ D * a → rounded_up x a ≤ D
-  rounded-le h = omega (arith, rounded-lt x a (suc D) pos (omega arith))
+  pub rounded_le : x ≤ D * a → rounded_up x a ≤ D
+  rounded_le h = omega (arith, rounded_lt x a (suc D) pos (omega arith))
 
-  pub le-rounded : rounded_up x a ≤ D → x ≤ D * a
-  le-rounded h = omega (arith, lt-rounded x a (suc D) pos (omega arith))
+  pub le_rounded : rounded_up x a ≤ D → x ≤ D * a
+  le_rounded h = omega (arith, lt_rounded x a (suc D) pos (omega arith))
 
-  pub rounded-above : D * a < x → D < rounded_up x a
-  rounded-above h = ⊎_elim (λ l. l) (λ (l : rounded_up x a ≤ D). absurd (omega (arith, le-rounded l))) (lt_or_le D (rounded_up x a))
+  pub rounded_above : D * a < x → D < rounded_up x a
+  rounded_above h = ⊎_elim (λ l. l) (λ (l : rounded_up x a ≤ D). absurd (omega (arith, le_rounded l))) (lt_or_le D (rounded_up x a))
 
-  pub above-rounded : D < rounded_up x a → D * a < x
-  above-rounded h = ⊎_elim (λ l. l) (λ (l : x ≤ D * a). absurd (omega (arith, rounded-le l))) (lt_or_le (D * a) x)
+  pub above_rounded : D < rounded_up x a → D * a < x
+  above_rounded h = ⊎_elim (λ l. l) (λ (l : x ≤ D * a). absurd (omega (arith, rounded_le l))) (lt_or_le (D * a) x)
 
 -- a product of 16 and 32 bits
 pub product_small : (a b : ℕ) → a < 65536 → b < 4294967296 → a * b ≤ 281470681677825

@@ -11,9 +11,9 @@ use Rattle.multiplexer.specs.declared.Served.{Served}
 module _
     (m : Multiplexer) (n frame slot : ℕ) {c choice : Choice} {counted : Multiplexer} (counts : counted ≡ count_of m c) (chosen : choice ≡ c)
   where
-    pub served-last : {port : Multiplexer} → slot + 1 ≡ frame → port ≡ end_frame_of counted n
+    pub served_last : {port : Multiplexer} → slot + 1 ≡ frame → port ≡ end_frame_of counted n
         → ◌≡◌ {A = Served} (record { port = port; choice = choice }) (served_with m c n frame slot)
-    served-last last ended = rw (eq-eqb (slot + 1) frame last, ended, counts, chosen) refl
+    served_last last ended = rw (eq-eqb (slot + 1) frame last, ended, counts, chosen) refl
 
-    pub served-on : (slot + 1 ≡ frame → ⊥) → ◌≡◌ {A = Served} (record { port = counted; choice = choice }) (served_with m c n frame slot)
-    served-on more = rw (ne_eqb (slot + 1) frame more, counts, chosen) refl
+    pub served_on : (slot + 1 ≡ frame → ⊥) → ◌≡◌ {A = Served} (record { port = counted; choice = choice }) (served_with m c n frame slot)
+    served_on more = rw (ne_eqb (slot + 1) frame more, counts, chosen) refl

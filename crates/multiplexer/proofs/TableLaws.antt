@@ -49,15 +49,15 @@ module _ (b r : ℕ) (r1 : 1 ≤ r) (rb : r ≤ b) where
       let service : s ≡ r = omega (arith, ap entries_before rate) in
       rw (sym rate, sym service) (eqb-true x (rounded_up (s * table_frame) a) (and_true (is_entry a s x) onward t).0)
 
-  right-at : (xs : List ℕ) (a m s p : ℕ) → 1 ≤ s → s + m ≡ a → right a m s xs ≡ true → entries_before a + s + p ≡ entries_before b + r
+  right_at : (xs : List ℕ) (a m s p : ℕ) → 1 ≤ s → s + m ≡ a → right a m s xs ≡ true → entries_before a + s + p ≡ entries_before b + r
       → p < length xs → get_or xs p 0 ≡ rounded_up (r * table_frame) b
-  right-at [] a m s p s1 e t place l = absurd (omega arith)
-  right-at (x ∷ xs) a zero s zero s1 e t place l = here x a s (right (suc a) a 1 xs) s1 (omega arith) t (omega arith)
-  right-at (x ∷ xs) a (suc m) s zero s1 e t place l = here x a s (right a m (suc s) xs) s1 (omega arith) t (omega arith)
-  right-at (x ∷ xs) a zero s (suc p) s1 e t place l =
-      right-at xs (suc a) a 1 p (omega arith) (omega arith) (and_true (is_entry a s x) (right (suc a) a 1 xs) t).1 (omega arith) (omega arith)
-  right-at (x ∷ xs) a (suc m) s (suc p) s1 e t place l =
-      right-at xs a m (suc s) p (omega arith) (omega arith) (and_true (is_entry a s x) (right a m (suc s) xs) t).1 (omega arith) (omega arith)
+  right_at [] a m s p s1 e t place l = absurd (omega arith)
+  right_at (x ∷ xs) a zero s zero s1 e t place l = here x a s (right (suc a) a 1 xs) s1 (omega arith) t (omega arith)
+  right_at (x ∷ xs) a (suc m) s zero s1 e t place l = here x a s (right a m (suc s) xs) s1 (omega arith) t (omega arith)
+  right_at (x ∷ xs) a zero s (suc p) s1 e t place l =
+      right_at xs (suc a) a 1 p (omega arith) (omega arith) (and_true (is_entry a s x) (right (suc a) a 1 xs) t).1 (omega arith) (omega arith)
+  right_at (x ∷ xs) a (suc m) s (suc p) s1 e t place l =
+      right_at xs a m (suc s) p (omega arith) (omega arith) (and_true (is_entry a s x) (right a m (suc s) xs) t).1 (omega arith) (omega arith)
 
 -- one test over the whole table, which antt computes, and its length
 pub rule_tested : (table : List ℕ) → right 1 0 1 table ≡ true → length table ≡ entries_before (suc table_frame) → TableRule table
@@ -65,7 +65,7 @@ rule_tested table tested full =
     record {
       full = full;
       entry = λ a s a1 a64 s1 sa.
-          right-at a s s1 sa table 1 0 1 (place_of a s) (omega arith) (omega arith) tested (omega arith)
+          right_at a s s1 sa table 1 0 1 (place_of a s) (omega arith) (omega arith) tested (omega arith)
           (omega (arith, full, before_mono (suc a) (suc table_frame) (omega arith)));
     }
 

@@ -29,26 +29,26 @@ count_is_valid slot rate k h = go (eqb slot 0) refl
 pub one_comparison : (slot rate k : ℕ) → leb k (cond (eqb slot 0) 0 rate) ≡ count_valid slot rate k
 one_comparison slot rate k = go (eqb slot 0) k refl
   where
-    and-pass : (b : Bool) → b ≡ (b && true)
-    and-pass true = refl
-    and-pass false = refl
+    and_pass : (b : Bool) → b ≡ (b && true)
+    and_pass true = refl
+    and_pass false = refl
 
-    and-fail : (b : Bool) → false ≡ (b && false)
-    and-fail true = refl
-    and-fail false = refl
+    and_fail : (b : Bool) → false ≡ (b && false)
+    and_fail true = refl
+    and_fail false = refl
 
     go : (b : Bool) (k : ℕ) → eqb slot 0 ≡ b → leb k (cond (eqb slot 0) 0 rate) ≡ count_valid slot rate k
     go true zero z = simp (z, le-leb 0 rate (omega arith))
-    go true (suc k) z = simp (z, lt-leb (suc k) 0 (omega arith), ne_eqb (suc k) 0 (λ e. omega arith)) (and-fail (leb (suc k) rate))
-    go false k z = simp z (and-pass (leb k rate))
+    go true (suc k) z = simp (z, lt-leb (suc k) 0 (omega arith), ne_eqb (suc k) 0 (λ e. omega arith)) (and_fail (leb (suc k) rate))
+    go false k z = simp z (and_pass (leb k rate))
 
 module _ (rates served : List ℕ) (n start along slot : ℕ) where
-  pub port-valid : port_valid rates served n start along slot ≡ true → (f : ℕ) → f < n
+  pub port_valid_lem : port_valid rates served n start along slot ≡ true → (f : ℕ) → f < n
       → CountWithin slot (get_or rates (start + f * along) 0) (get_or served f 0)
   unfolding port_valid
-  port-valid e f l = count_valid_lem slot _ _ (all_holds _ n e f l)
+  port_valid_lem e f l = count_valid_lem slot _ _ (all_holds _ n e f l)
 
-  pub port-is-valid : ((f : ℕ) → f < n → CountWithin slot (get_or rates (start + f * along) 0) (get_or served f 0))
+  pub port_is_valid : ((f : ℕ) → f < n → CountWithin slot (get_or rates (start + f * along) 0) (get_or served f 0))
       → port_valid rates served n start along slot ≡ true
   unfolding port_valid
-  port-is-valid h = all_intro _ n (λ f l. count_is_valid slot _ _ (h f l))
+  port_is_valid h = all_intro _ n (λ f l. count_is_valid slot _ _ (h f l))

@@ -15,22 +15,22 @@ module _ (rates : List ℕ) (n j : ℕ) (below : j < n) where
   abbrev in_row : ℕ → ℕ → ℕ
   in_row i k = part_of_column rates n j (flow_of n i k)
 
-  off-column : (i k : ℕ) → k < n → (k ≡ j → ⊥) → in_row i k ≡ 0
-  off-column i k l other = rw (flow_column n i k l, ne_eqb k j other) refl
+  off_column : (i k : ℕ) → k < n → (k ≡ j → ⊥) → in_row i k ≡ 0
+  off_column i k l other = rw (flow_column n i k l, ne_eqb k j other) refl
 
-  on-column : (i : ℕ) → in_row i j ≡ get_or rates (flow_of n i j) 0
-  on-column i = rw (eq-eqb _ _ (flow_column n i j below)) refl
+  on_column : (i : ℕ) → in_row i j ≡ get_or rates (flow_of n i j) 0
+  on_column i = rw (eq-eqb _ _ (flow_column n i j below)) refl
 
-  row-part : (i : ℕ) → sum_below (in_row i) n ≡ get_or rates (flow_of n i j) 0
-  row-part i = sum_one (in_row i) n j below (off-column i) ∙ on-column i
+  row_part : (i : ℕ) → sum_below (in_row i) n ≡ get_or rates (flow_of n i j) 0
+  row_part i = sum_one (in_row i) n j below (off_column i) ∙ on_column i
 
-  column-parts : sum_below (part_of_column rates n j) (n * n) ≡ column_sum rates n j
+  column_parts : sum_below (part_of_column rates n j) (n * n) ≡ column_sum rates n j
   unfolding column_sum
-  column-parts = sum_rows (part_of_column rates n j) n n ∙ sum_ext _ _ n (λ i l. row-part i)
+  column_parts = sum_rows (part_of_column rates n j) n n ∙ sum_ext _ _ n (λ i l. row_part i)
 
 pub every_column : EveryColumn
 every_column rates n j square below =
     record {
       compared = column_line rates n j;
-      each_once = column_line rates n j ∙ sym (ap (sum_below (part_of_column rates n j)) square ∙ column-parts rates n j below);
+      each_once = column_line rates n j ∙ sym (ap (sum_below (part_of_column rates n j)) square ∙ column_parts rates n j below);
     }

@@ -10,16 +10,16 @@ use Rattle.plan.proofs.BelowLaws.{below_or_last}
 use Rattle.plan.specs.Below.{list_below}
 
 module _ {A : Type 0} (x : ℕ → A) where
-  pub length-list : (n : ℕ) → length (list_below x n) ≡ n
+  pub length_list : (n : ℕ) → length (list_below x n) ≡ n
   unfolding list_below
-  length-list zero = refl
-  length-list (suc n) = omega (arith, length-append (list_below x n) (x n ∷ []), length-list n)
+  length_list zero = refl
+  length_list (suc n) = omega (arith, length-append (list_below x n) (x n ∷ []), length_list n)
 
-  pub getD-list : (n k : ℕ) (d : A) → k < n → get_or (list_below x n) k d ≡ x k
+  pub get_d_list : (n k : ℕ) (d : A) → k < n → get_or (list_below x n) k d ≡ x k
   unfolding list_below
-  getD-list zero k d l = absurd (omega arith)
-  getD-list (suc n) k d l =
+  get_d_list zero k d l = absurd (omega arith)
+  get_d_list (suc n) k d l =
       ⊎_elim
-      (λ (b : k < n). get_or-append (list_below x n) (x n ∷ []) d k (omega (arith, length-list n)) ∙ getD-list n k d b)
-      (λ (e : k ≡ n). get_or_at (list_below x n) (x n) [] d k (length-list n ∙ sym e) ∙ ap x (sym e))
+      (λ (b : k < n). get_or-append (list_below x n) (x n ∷ []) d k (omega (arith, length_list n)) ∙ get_d_list n k d b)
+      (λ (e : k ≡ n). get_or_at (list_below x n) (x n) [] d k (length_list n ∙ sym e) ∙ ap x (sym e))
       (below_or_last k n l)

@@ -70,9 +70,9 @@ long_read file h =
 
 module _ (m : ℕ) (file : List ℕ) (enough : longest_file < m) where
   -- the head is within the first m bytes
-  head-kept : too_long_in (take m file) ≡ too_long_in file
+  head_kept : too_long_in (take m file) ≡ too_long_in file
   unfolding is_marked
-  head-kept =
+  head_kept =
       let at : (p : ℕ) → p < 8 → byte_at (take m file) p ≡ byte_at file p = λ p h. get_or-take m file p 0 (omega arith) in
       simp (
         at 0 (omega arith),
@@ -90,7 +90,7 @@ module _ (m : ℕ) (file : List ℕ) (enough : longest_file < m) where
       ⊎_elim
       (λ (h : m < length file).
       long_read (take m file) (omega (arith, length-take-le m file (omega arith)))
-      ∙ ap refused_by head-kept
+      ∙ ap refused_by head_kept
       ∙ sym (long_read file (omega arith)))
       (λ (h : length file ≤ m). ap read_of (take_all m file h))
       (lt_or_le m (length file))

@@ -20,7 +20,7 @@ use Rattle.plan.proofs.AcceptLaws.{accepted}
 use Rattle.plan.specs.Below.{list_below}
 use Rattle.plan.proofs.BelowLaws.{and_true, below_or_last}
 use Rattle.plan.proofs.LineLaws.{square_small}
-use Rattle.plan.proofs.ListLaws.{length-list, getD-list}
+use Rattle.plan.proofs.ListLaws.{length_list, get_d_list}
 use Rattle.plan.proofs.RangeLaws.{ports_in_lem, frame_in_lem}
 use Rattle.planfile.specs.Layout.{byte_at, word_at, is_marked, version_in, ports_in, frame_in, file_length, longest_file, rates_of, padded_to}
 use Rattle.planfile.specs.Read.{verdict_of, read_of}
@@ -72,33 +72,33 @@ word_joined x = omega arith
 
 -- What is read of a file that was written.
 module _ (n t : ℕ) (rates : List ℕ) where
-  marked-written : (is_marked (file_of n t rates) && eqb (version_in (file_of n t rates)) 1) ≡ true
+  marked_written : (is_marked (file_of n t rates) && eqb (version_in (file_of n t rates)) 1) ≡ true
   unfolding file_of head_of is_marked
-  marked-written = refl
+  marked_written = refl
 
-  ports-written : ports_in (file_of n t rates) ≡ n
+  ports_written : ports_in (file_of n t rates) ≡ n
   unfolding file_of head_of
-  ports-written = refl
+  ports_written = refl
 
-  frame-written : frame_in (file_of n t rates) ≡ t
+  frame_written : frame_in (file_of n t rates) ≡ t
   unfolding file_of head_of
-  frame-written = word_joined t
+  frame_written = word_joined t
 
-  byte-written : (p j at : ℕ) → p < length rates → j < 2 → at ≡ 8 + (2 * p + j) → byte_at (file_of n t rates) at ≡ get_or (word_of (get_or rates p 0)) j 0
+  byte_written : (p j at : ℕ) → p < length rates → j < 2 → at ≡ 8 + (2 * p + j) → byte_at (file_of n t rates) at ≡ get_or (word_of (get_or rates p 0)) j 0
   unfolding file_of
-  byte-written p j at l small e =
+  byte_written p j at l small e =
       let place : at ≡ length (head_of n t) + (2 * p + j) = omega (arith, head_length n t) in
       rw place (get_or-append-add (head_of n t) (rate_bytes rates (length rates)) (2 * p + j) 0 ∙ rate_byte rates (length rates) p j l small)
 
-  word-written : (p : ℕ) → p < length rates → word_at (file_of n t rates) (8 + 2 * p) ≡ get_or rates p 0
-  word-written p l =
-      rw (byte-written p 0 (8 + 2 * p) l (omega arith) (omega arith), byte-written p 1 (8 + 2 * p + 1) l (omega arith) (omega arith))
+  word_written : (p : ℕ) → p < length rates → word_at (file_of n t rates) (8 + 2 * p) ≡ get_or rates p 0
+  word_written p l =
+      rw (byte_written p 0 (8 + 2 * p) l (omega arith) (omega arith), byte_written p 1 (8 + 2 * p + 1) l (omega arith) (omega arith))
       (word_joined (get_or rates p 0))
 
-  rates-written : (count : ℕ) → count ≤ length rates → rates_of (file_of n t rates) count ≡ take count rates
+  rates_written : (count : ℕ) → count ≤ length rates → rates_of (file_of n t rates) count ≡ take count rates
   unfolding rates_of
-  rates-written zero l = refl
-  rates-written (suc p) l = rw (rates-written p (omega arith), word-written p l, take-suc rates p 0 l) refl
+  rates_written zero l = refl
+  rates_written (suc p) l = rw (rates_written p (omega arith), word_written p l, take-suc rates p 0 l) refl
 
 pub reads_back : ReadsBack
 unfolding read_of verdict_of
@@ -106,11 +106,11 @@ reads_back n t rates e =
     let plan = accepted n t rates e in
     let file = file_of n t rates in
     let whole : length file ≡ file_length n = omega (arith, file_length_lem n t rates, plan.square) in
-    let all : rates_of file (n * n) ≡ rates = rates-written n t rates (n * n) (omega (arith, plan.square)) ∙ take_all (n * n) rates (omega (arith, plan.square)) in
+    let all : rates_of file (n * n) ≡ rates = rates_written n t rates (n * n) (omega (arith, plan.square)) ∙ take_all (n * n) rates (omega (arith, plan.square)) in
     rw (
-      ports-written n t rates,
-      frame-written n t rates,
-      marked-written n t rates,
+      ports_written n t rates,
+      frame_written n t rates,
+      marked_written n t rates,
       le-ltb (length file) 8 (omega arith),
       ports_in_lem n plan.some_port plan.few_ports,
       frame_in_lem t plan.some_slot plan.few_slots,
@@ -138,8 +138,8 @@ rate_read file (suc count) p l =
 
 all_bytes : (file : List ℕ) → list_below (byte_at file) (length file) ≡ file
 all_bytes file =
-    ext_get_or 0 (list_below (byte_at file) (length file)) file (length-list (byte_at file) (length file))
-    (λ k h. getD-list (byte_at file) (length file) k 0 (omega (arith, length-list (byte_at file) (length file))))
+    ext_get_or 0 (list_below (byte_at file) (length file)) file (length_list (byte_at file) (length file))
+    (λ k h. get_d_list (byte_at file) (length file) k 0 (omega (arith, length_list (byte_at file) (length file))))
 
 -- What is written of a file that was read.
 module _ (file : List ℕ) (bytes : AreBytes file) (marked : (is_marked file && eqb (version_in file) 1) ≡ true) where
@@ -151,27 +151,27 @@ module _ (file : List ℕ) (bytes : AreBytes file) (marked : (is_marked file && 
       let begin = and_true (eqb (byte_at file 0) 76) (eqb (byte_at file 1) 83) mark.0 in
       let version = eqb-true (version_in file) 1 all.1 in
       let version_low : byte_at file 3 ≡ 1 = omega (arith, bytes 3) in
-      let version-high : byte_at file 4 ≡ 0 = omega (arith, bytes 3) in
-      let frame-low : frame_in file % 256 ≡ byte_at file 6 = omega (arith, bytes 6) in
-      let frame-high : frame_in file / 256 ≡ byte_at file 7 = omega (arith, bytes 6) in
+      let version_high : byte_at file 4 ≡ 0 = omega (arith, bytes 3) in
+      let frame_low : frame_in file % 256 ≡ byte_at file 6 = omega (arith, bytes 6) in
+      let frame_high : frame_in file / 256 ≡ byte_at file 7 = omega (arith, bytes 6) in
       rw (
         eqb-true (byte_at file 0) 76 begin.0,
         eqb-true (byte_at file 1) 83 begin.1,
         eqb-true (byte_at file 2) 80 mark.1,
         version_low,
-        version-high,
-        frame-low,
-        frame-high,
+        version_high,
+        frame_low,
+        frame_high,
       )
       refl
 
-  file-read : (count c : ℕ) → c ≤ count → head_of (ports_in file) (frame_in file) ++ rate_bytes (rates_of file count) c ≡ list_below (byte_at file) (8 + 2 * c)
+  file_read : (count c : ℕ) → c ≤ count → head_of (ports_in file) (frame_in file) ++ rate_bytes (rates_of file count) c ≡ list_below (byte_at file) (8 + 2 * c)
   unfolding rate_bytes list_below
-  file-read count zero l = append-nil (head_of (ports_in file) (frame_in file)) ∙ head_read
-  file-read count (suc c) l =
+  file_read count zero l = append-nil (head_of (ports_in file) (frame_in file)) ∙ head_read
+  file_read count (suc c) l =
       let next : 8 + 2 * suc c ≡ suc (suc (8 + 2 * c)) = omega arith in
       let word = word_split (byte_at file (8 + 2 * c)) (byte_at file (8 + 2 * c + 1)) (bytes (8 + 2 * c)) in
-      rw (next, rate_read file count c l, word, ← append_assoc, file-read count c (omega arith), add-one) (simp append_assoc)
+      rw (next, rate_read file count c l, word, ← append_assoc, file_read count c (omega arith), add-one) (simp append_assoc)
 
 pub writes_back : WritesBack
 unfolding read_of file_of
@@ -181,7 +181,7 @@ writes_back file bytes e =
     let rates = rates_of file (n * n) in
     let count = rates_length file (n * n) in
     rw (e, padded_take rates (n * n) count, count)
-    (file-read file bytes known.marked (n * n) (n * n) (omega arith)
+    (file_read file bytes known.marked (n * n) (n * n) (omega arith)
     ∙ ap (list_below (byte_at file)) (sym known.whole)
     ∙ all_bytes file)
 

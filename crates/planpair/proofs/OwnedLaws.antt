@@ -18,11 +18,11 @@ use Rattle.planpair.specs.Rates.{plan_rates}
 
 module _ (p : Plan) (vs : List Val) (owned : Is (row the_type) p vs) where
   -- `owned` has a part for each field of the struct, and the rates are the third
-  pub rates-full : length p.rates ≡ most_flows
-  rates-full = good_length (e_int w16) most_flows p.rates _ owned.1.1.1.1.0
+  pub rates_full : length p.rates ≡ most_flows
+  rates_full = good_length (e_int w16) most_flows p.rates _ owned.1.1.1.1.0
 
-  pub rates-cover : p.ports ≤ most_ports → p.ports * p.ports ≤ length p.rates
-  rates-cover few = omega (arith, rates-full, square_small p.ports few)
+  pub rates_cover : p.ports ≤ most_ports → p.ports * p.ports ≤ length p.rates
+  rates_cover few = omega (arith, rates_full, square_small p.ports few)
 
-  pub rates-square : p.ports ≤ most_ports → length (plan_rates p) ≡ p.ports * p.ports
-  rates-square few = length-take-le _ p.rates (rates-cover few)
+  pub rates_square : p.ports ≤ most_ports → length (plan_rates p) ≡ p.ports * p.ports
+  rates_square few = length-take-le _ p.rates (rates_cover few)

@@ -28,21 +28,21 @@ unfolding plan_valid
 plan_is_valid p h = simp (accepts p.ports p.frame (plan_rates p) h)
 
 module _ (p q : Plan) (waits : Bool) where
-  pub running-valid : plans_valid p q waits ≡ true → IsPlanOf p
+  pub running_valid : plans_valid p q waits ≡ true → IsPlanOf p
   unfolding plans_valid
-  running-valid e = plan_valid_lem p (and_true (plan_valid p) (not waits || (plan_valid q && same_ports p q)) e).0
+  running_valid e = plan_valid_lem p (and_true (plan_valid p) (not waits || (plan_valid q && same_ports p q)) e).0
 
-  pub waiting-valid : plans_valid p q waits ≡ true → waits ≡ true → IsPlanOf q × (p.ports ≡ q.ports) × (p.frame ≡ q.frame)
+  pub waiting_valid : plans_valid p q waits ≡ true → waits ≡ true → IsPlanOf q × (p.ports ≡ q.ports) × (p.frame ≡ q.frame)
   unfolding plans_valid
-  waiting-valid e w =
+  waiting_valid e w =
       let rest = (and_true (plan_valid p) (not waits || (plan_valid q && same_ports p q)) e).1 in
       let both = and_true (plan_valid q) (same_ports p q) (rw w at rest) in
       let same = and_true (eqb p.ports q.ports) (eqb p.frame q.frame) both.1 in
       (plan_valid_lem q both.0, eqb-true _ _ same.0, eqb-true _ _ same.1)
 
-  pub plans-are-valid : IsPlanOf p → (waits ≡ true → IsPlanOf q) → (waits ≡ true → p.ports ≡ q.ports) → (waits ≡ true → p.frame ≡ q.frame) → plans_valid p q waits ≡ true
+  pub plans_are_valid : IsPlanOf p → (waits ≡ true → IsPlanOf q) → (waits ≡ true → p.ports ≡ q.ports) → (waits ≡ true → p.frame ≡ q.frame) → plans_valid p q waits ≡ true
   unfolding plans_valid
-  plans-are-valid hp hq ports frame = go waits refl
+  plans_are_valid hp hq ports frame = go waits refl
     where
       go : (b : Bool) → waits ≡ b → (plan_valid p && (not waits || (plan_valid q && same_ports p q))) ≡ true
       go true w = simp (plan_is_valid p hp, plan_is_valid q (hq w), w, eq-eqb _ _ (ports w), eq-eqb _ _ (frame w))

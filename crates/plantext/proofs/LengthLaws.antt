@@ -24,27 +24,27 @@ field_counted text values (quoted h) = number_counted _ values h
 
 -- a series of items of at most so many bytes, with so many values each
 module _ (Item : List ℕ → List ℕ → Type 0) (mark : List ℕ) where
-  series-short : (size : ℕ) → ((text values : List ℕ) → Item text values → length text ≤ size)
+  series_short : (size : ℕ) → ((text values : List ℕ) → Item text values → length text ≤ size)
       → (k : ℕ) (text values : List ℕ) → Series Item mark k text values → length text + length mark ≤ k * (size + length mark)
-  series-short size short k text values (one h) = omega (arith, short text values h)
-  series-short size short k text values (more {k = j} {text = early} {values = some-values} {last = last} {new = new} s h) =
-      simp length-append (omega (arith, series-short size short j early some-values s, short last new h))
+  series_short size short k text values (one h) = omega (arith, short text values h)
+  series_short size short k text values (more {k = j} {text = early} {values = some_values} {last = last} {new = new} s h) =
+      simp length-append (omega (arith, series_short size short j early some_values s, short last new h))
 
-  series-counted : (count : ℕ) → ((text values : List ℕ) → Item text values → length values ≡ count)
+  series_counted : (count : ℕ) → ((text values : List ℕ) → Item text values → length values ≡ count)
       → (k : ℕ) (text values : List ℕ) → Series Item mark k text values → length values ≡ k * count
-  series-counted count counted k text values (one h) = omega (arith, counted text values h)
-  series-counted count counted k text values (more {k = j} {text = early} {values = some-values} {last = last} {new = new} s h) =
-      simp length-append (omega (arith, series-counted count counted j early some-values s, counted last new h))
+  series_counted count counted k text values (one h) = omega (arith, counted text values h)
+  series_counted count counted k text values (more {k = j} {text = early} {values = some_values} {last = last} {new = new} s h) =
+      simp length-append (omega (arith, series_counted count counted j early some_values s, counted last new h))
 
 record_short : (m : ℕ) (text values : List ℕ) → Record (suc m) text values → length text ≤ m * 8 + 7
-record_short m text values h = omega (arith, series-short Field comma 7 field_short (suc m) text values h)
+record_short m text values h = omega (arith, series_short Field comma 7 field_short (suc m) text values h)
 
 -- with room for one more CR LF
 records_short : (n : ℕ) (text values : List ℕ) → Records n text values → length text + 2 ≤ longest_text n
-records_short zero text values h = omega (arith, series-short (Record 0) line_end 0 (λ t v r. omega (arith, series-short Field comma 7 field_short 0 t v r)) 0 text values h)
+records_short zero text values h = omega (arith, series_short (Record 0) line_end 0 (λ t v r. omega (arith, series_short Field comma 7 field_short 0 t v r)) 0 text values h)
 records_short (suc m) text values h =
     let less : suc m - 1 ≡ m = omega arith in
-    rw less (omega (arith, series-short (Record (suc m)) line_end (m * 8 + 7) (record_short m) (suc m) text values h))
+    rw less (omega (arith, series_short (Record (suc m)) line_end (m * 8 + 7) (record_short m) (suc m) text values h))
 
 pub text_short : (n : ℕ) (text values : List ℕ) → Text n text values → length text ≤ longest_text n
 text_short n text values (unended h) = omega (arith, records_short n text values h)
@@ -52,7 +52,7 @@ text_short n text values (ended {text = lines} h) = simp length-append (omega (a
 
 records_counted : (n : ℕ) (text values : List ℕ) → Records n text values → length values ≡ n * n
 records_counted n text values h =
-    series-counted (Record n) line_end n (λ t v r. omega (arith, series-counted Field comma 1 field_counted n t v r)) n text values h
+    series_counted (Record n) line_end n (λ t v r. omega (arith, series_counted Field comma 1 field_counted n t v r)) n text values h
 
 pub text_counted : (n : ℕ) (text values : List ℕ) → Text n text values → length values ≡ n * n
 text_counted n text values (unended h) = records_counted n text values h

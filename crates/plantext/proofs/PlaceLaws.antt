@@ -19,45 +19,45 @@ use Rattle.plantext.proofs.RuleLaws.{NoDigit, prefixed_none}
 
 -- What is left of a text from a place on.
 module _ (text : List ℕ) (at : ℕ) where
-  pub left-none : length text ≤ at → drop at text ≡ []
-  left-none h = drop_of_length-le text {i = at} h
+  pub left_none : length text ≤ at → drop at text ≡ []
+  left_none h = drop_of_length-le text {i = at} h
 
-  pub left-some : at < length text → drop at text ≡ get_or text at 0 ∷ drop (at + 1) text
-  left-some h = drop-cons text at 0 h ∙ ap (λ (p : ℕ). get_or text at 0 ∷ drop p text) (sym (add-one at))
+  pub left_some : at < length text → drop at text ≡ get_or text at 0 ∷ drop (at + 1) text
+  left_some h = drop-cons text at 0 h ∙ ap (λ (p : ℕ). get_or text at 0 ∷ drop p text) (sym (add-one at))
 
-  pub skip-past : (byte : ℕ) → length text ≤ at → skip (byte ∷ []) (drop at text) ≡ nothing
+  pub skip_past : (byte : ℕ) → length text ≤ at → skip (byte ∷ []) (drop at text) ≡ nothing
   unfolding skip
-  skip-past byte h = rw (left-none h) refl
+  skip_past byte h = rw (left_none h) refl
 
-  pub skip-other : (byte : ℕ) → at < length text → (get_or text at 0 ≡ byte → ⊥) → skip (byte ∷ []) (drop at text) ≡ nothing
+  pub skip_other : (byte : ℕ) → at < length text → (get_or text at 0 ≡ byte → ⊥) → skip (byte ∷ []) (drop at text) ≡ nothing
   unfolding skip
-  skip-other byte h ne = rw (left-some h, ne_eqb (get_or text at 0) byte ne) refl
+  skip_other byte h ne = rw (left_some h, ne_eqb (get_or text at 0) byte ne) refl
 
-  pub skip-byte : (byte : ℕ) → at < length text → get_or text at 0 ≡ byte → skip (byte ∷ []) (drop at text) ≡ parsed [] (drop (at + 1) text)
+  pub skip_byte : (byte : ℕ) → at < length text → get_or text at 0 ≡ byte → skip (byte ∷ []) (drop at text) ≡ parsed [] (drop (at + 1) text)
   unfolding skip
-  skip-byte byte h e = rw (left-some h, eq-eqb (get_or text at 0) byte e) refl
+  skip_byte byte h e = rw (left_some h, eq-eqb (get_or text at 0) byte e) refl
 
   -- nothing is left at the end and behind it
-  pub at-end-left : (values : List ℕ) → at_end (parsed values (drop at text)) ≡ leb (length text) at
-  at-end-left values =
+  pub at_end_left : (values : List ℕ) → at_end (parsed values (drop at text)) ≡ leb (length text) at
+  at_end_left values =
       ⊎_elim
-      (λ (h : at < length text). rw (left-some h, lt-leb (length text) at h) refl)
-      (λ (h : length text ≤ at). rw (left-none h, le-leb (length text) at h) refl)
+      (λ (h : at < length text). rw (left_some h, lt-leb (length text) at h) refl)
+      (λ (h : length text ≤ at). rw (left_none h, le-leb (length text) at h) refl)
       (lt_or_le at (length text))
 
-  pub no-digit-past : length text ≤ at → NoDigit (drop at text)
-  no-digit-past h = rw (left-none h) tt
+  pub no_digit_past : length text ≤ at → NoDigit (drop at text)
+  no_digit_past h = rw (left_none h) tt
 
-  pub no-digit-here : at < length text → is_digit (get_or text at 0) ≡ false → NoDigit (drop at text)
-  no-digit-here h e = rw (left-some h) e
+  pub no_digit_here : at < length text → is_digit (get_or text at 0) ≡ false → NoDigit (drop at text)
+  no_digit_here h e = rw (left_some h) e
 
   -- one digit more is taken
-  pub digit-taken : (count value : ℕ) → count < 5 → at < length text → is_digit (get_or text at 0) ≡ true
+  pub digit_taken : (count value : ℕ) → count < 5 → at < length text → is_digit (get_or text at 0) ≡ true
       → digits_from (5 - count) count value (drop at text) ≡ digits_from (5 - (count + 1)) (count + 1) (value * 10 + digit_of (get_or text at 0)) (drop (at + 1) text)
   unfolding digits_from
-  digit-taken count value few h e =
+  digit_taken count value few h e =
       let room : 5 - count ≡ suc (5 - (count + 1)) = omega arith in
-      rw (room, left-some h, e, add-one count) refl
+      rw (room, left_some h, e, add-one count) refl
 
 -- with five there is no room for another
 pub digits_full : (count value : ℕ) (text : List ℕ) → count ≡ 5 → digits_from (5 - count) count value text ≡ record { count = 5; value = value; rest = text }
@@ -96,13 +96,13 @@ stuck item mark text k (suc n) l e =
 
 -- One item more of a series, of which k are taken.
 module _ (item : List ℕ → Parsed) (mark text : List ℕ) (k : ℕ) (values rest : List ℕ) (taken : series item mark k text ≡ parsed values rest) where
-  pub series-next : (left new end : List ℕ) → skip (before mark k) rest ≡ parsed [] left → item left ≡ parsed new end → series item mark (suc k) text ≡ parsed (values ++ new) end
+  pub series_next : (left new end : List ℕ) → skip (before mark k) rest ≡ parsed [] left → item left ≡ parsed new end → series item mark (suc k) text ≡ parsed (values ++ new) end
   unfolding series
-  series-next left new end marked one_more = rw (taken, marked, one_more, append-nil) refl
+  series_next left new end marked one_more = rw (taken, marked, one_more, append-nil) refl
 
-  pub no-mark : (n : ℕ) → k < n → skip (before mark k) rest ≡ nothing → series item mark n text ≡ nothing
+  pub no_mark : (n : ℕ) → k < n → skip (before mark k) rest ≡ nothing → series item mark n text ≡ nothing
   unfolding series
-  no-mark n l marked = stuck item mark text k n l (rw (taken, marked) refl)
+  no_mark n l marked = stuck item mark text k n l (rw (taken, marked) refl)
 
   pub no_item : (n : ℕ) (left : List ℕ) → k < n → skip (before mark k) rest ≡ parsed [] left → item left ≡ nothing → series item mark n text ≡ nothing
   unfolding series

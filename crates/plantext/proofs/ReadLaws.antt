@@ -72,11 +72,11 @@ accepted_text n t text rates e =
     let frame = refuse_passed (not (frame_in_range t)) _ _ ports.1 in
     let square = refuse_passed (not (is_square n rates)) _ _ frame.1 in
     let rules = refuse_passed (not (is_text n text)) _ _ square.1 in
-    rw e (record { values = some-values (values_of n text) (not-false _ rules.0); plan = rules.1 })
+    rw e (record { values = some_values (values_of n text) (not-false _ rules.0); plan = rules.1 })
   where
-    some-values : (o : Option (List ℕ)) → is_some o ≡ true → o ≡ some (get_or o [])
-    some-values none f = let z : ◌≡◌ {A = ℕ} 0 1 = cc in absurd (omega arith)
-    some-values (some values) f = refl
+    some_values : (o : Option (List ℕ)) → is_some o ≡ true → o ≡ some (get_or o [])
+    some_values none f = let z : ◌≡◌ {A = ℕ} 0 1 = cc in absurd (omega arith)
+    some_values (some values) f = refl
 
 -- no text for N ports is longer than the longest
 too_long : (n : ℕ) (text : List ℕ) → 1 ≤ n → longest_text n < length text → values_of n text ≡ none

@@ -9,21 +9,21 @@ use lib.Seq.{length-take-le, take-append-add, take-append_seam}
 use Rattle.plan.proofs.LineLaws.{row_within}
 
 module _ (list : List ℕ) (k n : ℕ) (below : k < n) (square : length list ≡ n * n) where
-  pub row-size : length (take (k * n + n - k * n) (drop (k * n) list)) ≡ n
-  row-size =
+  pub row_size : length (take (k * n + n - k * n) (drop (k * n) list)) ≡ n
+  row_size =
       let within = row_within k n n below in
       let count : k * n + n - k * n ≡ n = omega arith in
       rw count (length-take-le n (drop (k * n) list) (omega (arith, length-drop (k * n) list)))
 
   -- the first k rows, and one that was written behind them
   module _ (row : List ℕ) (size : length row ≡ n) where
-    front-size : length (take (k * n) list) ≡ k * n
-    front-size = length-take-le (k * n) list (omega (arith, row_within k n n below))
+    front_size : length (take (k * n) list) ≡ k * n
+    front_size = length-take-le (k * n) list (omega (arith, row_within k n n below))
 
-    pub put-size : length (take (k * n) list ++ (row ++ drop (k * n + n - k * n) (drop (k * n) list))) ≡ n * n
-    put-size = simp (length-append, length-drop) (omega (arith, front-size, row_within k n n below))
+    pub put_size : length (take (k * n) list ++ (row ++ drop (k * n + n - k * n) (drop (k * n) list))) ≡ n * n
+    put_size = simp (length-append, length-drop) (omega (arith, front_size, row_within k n n below))
 
-    pub put-taken : take ((k + 1) * n) (take (k * n) list ++ (row ++ drop (k * n + n - k * n) (drop (k * n) list))) ≡ take (k * n) list ++ row
-    put-taken =
-        let all : (k + 1) * n ≡ length (take (k * n) list) + length row = omega (arith, front-size) in
+    pub put_taken : take ((k + 1) * n) (take (k * n) list ++ (row ++ drop (k * n + n - k * n) (drop (k * n) list))) ≡ take (k * n) list ++ row
+    put_taken =
+        let all : (k + 1) * n ≡ length (take (k * n) list) + length row = omega (arith, front_size) in
         rw all (take-append-add (take (k * n) list) _ (length row) ∙ ap (λ (l : List ℕ). take (k * n) list ++ l) (take-append_seam row _))

@@ -97,27 +97,27 @@ module _ (item : List ℕ → Parsed) (Item : List ℕ → List ℕ → Type 0) 
         holds = more most.holds last.holds;
       }
 
-  pub series-sound : Sound item Item → (k : ℕ) → Sound (series item mark (suc k)) (Series Item mark (suc k))
+  pub series_sound : Sound item Item → (k : ℕ) → Sound (series item mark (suc k)) (Series Item mark (suc k))
   unfolding series skip
-  series-sound sound zero text values rest e =
+  series_sound sound zero text values rest e =
       let taken = sound text values rest (sym (prefixed_none (item text)) ∙ e) in
       record { piece = taken.piece; split = taken.split; holds = one taken.holds }
-  series-sound sound (suc k) text values rest e =
+  series_sound sound (suc k) text values rest e =
       let outer = then_both (followed_by (series item mark (suc k) text) (skip mark)) item values rest e in
       let inner = then_both (series item mark (suc k) text) (skip mark) outer.early outer.middle outer.first_took in
       let passed = skip_sound mark inner.middle inner.late outer.middle inner.then_took in
-      let most = series-sound sound k text inner.early inner.middle inner.first_took in
+      let most = series_sound sound k text inner.early inner.middle inner.first_took in
       let last = sound outer.middle outer.late rest outer.then_took in
       let all : inner.early ++ outer.late ≡ values = cc (append-nil inner.early) in
       subst (λ (v : List ℕ). Taken (Series Item mark (suc (suc k))) text v rest) all (taken_next most passed.1 last)
 
-  some-items : {k : ℕ} {text values : List ℕ} → Series Item mark k text values → before mark k ≡ mark
-  some-items (one h) = refl
-  some-items (more s h) = refl
+  some_items : {k : ℕ} {text values : List ℕ} → Series Item mark k text values → before mark k ≡ mark
+  some_items (one h) = refl
+  some_items (more s h) = refl
 
-  pub series-complete : Complete item Item → ((text : List ℕ) → NoDigit (mark ++ text)) → (k : ℕ) → Complete (series item mark k) (Series Item mark k)
+  pub series_complete : Complete item Item → ((text : List ℕ) → NoDigit (mark ++ text)) → (k : ℕ) → Complete (series item mark k) (Series Item mark k)
   unfolding series skip
-  series-complete complete stops k piece values rest (one {text = text} h) clear = prefixed_none (item (text ++ rest)) ∙ complete text values rest h clear
-  series-complete complete stops k piece values rest (more {k = j} {text = text} {values = early} {last = last} {new = new} s h) clear =
-      let most = series-complete complete stops j text early (mark ++ (last ++ rest)) s (stops (last ++ rest)) in
-      rw (append_assoc, append_assoc, most, some-items s, skip_complete, complete last new rest h clear, append-nil) refl
+  series_complete complete stops k piece values rest (one {text = text} h) clear = prefixed_none (item (text ++ rest)) ∙ complete text values rest h clear
+  series_complete complete stops k piece values rest (more {k = j} {text = text} {values = early} {last = last} {new = new} s h) clear =
+      let most = series_complete complete stops j text early (mark ++ (last ++ rest)) s (stops (last ++ rest)) in
+      rw (append_assoc, append_assoc, most, some_items s, skip_complete, complete last new rest h clear, append-nil) refl

@@ -11,7 +11,7 @@ use borrow.Author.Tests.{eqb-true}
 use Rattle.plantext.specs.Bytes.{is_digit, comma, quote, line_end}
 use Rattle.plantext.specs.Grammar.{Number, Field, plain, quoted, Record, Records, Text, unended, ended}
 use Rattle.plantext.specs.Values.{Parsed, nothing, parsed, skip, digits_from, number, field_behind, field, record_of, records_of, at_end, ends, whole, values_of, SameRules, OneReading}
-use Rattle.plantext.proofs.RuleLaws.{Taken, Sound, Complete, never, then_both, skip_sound, series-sound, series-complete}
+use Rattle.plantext.proofs.RuleLaws.{Taken, Sound, Complete, never, then_both, skip_sound, series_sound, series_complete}
 use Rattle.plantext.proofs.NumberLaws.{number_sound, number_complete}
 
 quoted_taken : {text inside values middle rest : List ℕ} → text ≡ quote ++ inside → Taken Number inside values middle → middle ≡ quote ++ rest → Taken Field text values rest
@@ -56,18 +56,18 @@ field_complete piece values rest (quoted {text = text} h) clear =
     rw (append_assoc text quote rest, number_complete text values (quote ++ rest) h refl, append-nil) refl
 
 record_sound : (m : ℕ) → Sound (record_of (suc m)) (Record (suc m))
-record_sound m = series-sound field Field comma field_sound m
+record_sound m = series_sound field Field comma field_sound m
 
 record_complete : (n : ℕ) → Complete (record_of n) (Record n)
 unfolding is_digit
-record_complete n = series-complete field Field comma field_complete (λ _. refl) n
+record_complete n = series_complete field Field comma field_complete (λ _. refl) n
 
 records_sound : (m : ℕ) → Sound (records_of (suc m)) (Records (suc m))
-records_sound m = series-sound (record_of (suc m)) (Record (suc m)) line_end (record_sound m) m
+records_sound m = series_sound (record_of (suc m)) (Record (suc m)) line_end (record_sound m) m
 
 records_complete : (n : ℕ) → Complete (records_of n) (Records n)
 unfolding is_digit
-records_complete n = series-complete (record_of n) (Record n) line_end (record_complete n) (λ _. refl) n
+records_complete n = series_complete (record_of n) (Record n) line_end (record_complete n) (λ _. refl) n
 
 at_end_lem : (p : Parsed) → at_end p ≡ true → (values : List ℕ) × (p ≡ parsed values [])
 at_end_lem nothing e = let z : ◌≡◌ {A = ℕ} 0 1 = cc in absurd (omega arith)
@@ -90,12 +90,12 @@ ends_cases rest e =
 text_taken : (n : ℕ) {text values rest : List ℕ} → Taken (Records n) text values rest → (rest ≡ []) ⊎ (rest ≡ line_end) → Text n text values
 text_taken n {text} {values} {rest} taken end =
     ⊎_elim
-    (λ (e : rest ≡ []). as-text (append-nil taken.piece) e (unended taken.holds))
-    (λ (e : rest ≡ line_end). as-text refl e (ended taken.holds))
+    (λ (e : rest ≡ []). as_text (append-nil taken.piece) e (unended taken.holds))
+    (λ (e : rest ≡ line_end). as_text refl e (ended taken.holds))
     end
   where
-    as-text : {left whole : List ℕ} → taken.piece ++ left ≡ whole → rest ≡ left → Text n whole values → Text n text values
-    as-text w e h = subst (λ (l : List ℕ). Text n l values) (sym (taken.split ∙ ap (λ (l : List ℕ). taken.piece ++ l) e ∙ w)) h
+    as_text : {left whole : List ℕ} → taken.piece ++ left ≡ whole → rest ≡ left → Text n whole values → Text n text values
+    as_text w e h = subst (λ (l : List ℕ). Text n l values) (sym (taken.split ∙ ap (λ (l : List ℕ). taken.piece ++ l) e ∙ w)) h
 
 text_sound : (m : ℕ) (text values : List ℕ) → values_of (suc m) text ≡ some values → Text (suc m) text values
 unfolding values_of

@@ -60,29 +60,29 @@ module _ (l : List ℕ) (n i j g : ℕ) (square : length l ≡ n * n) (hi : i < 
   abbrev grown : List ℕ
   grown = set l (flow_of n i j) (get_or l (flow_of n i j) 0 + g)
 
-  pub grown-here : get_or grown (flow_of n i j) 0 ≡ get_or l (flow_of n i j) 0 + g
-  grown-here = get_or-set_same l (flow_of n i j) _ 0 (omega (arith, flow_below n i j hi hj))
+  pub grown_here : get_or grown (flow_of n i j) 0 ≡ get_or l (flow_of n i j) 0 + g
+  grown_here = get_or-set_same l (flow_of n i j) _ 0 (omega (arith, flow_below n i j hi hj))
 
   -- another row
-  pub elsewhere-row : (a b : ℕ) → b < n → (a ≡ i → ⊥) → get_or grown (flow_of n a b) 0 ≡ get_or l (flow_of n a b) 0
-  elsewhere-row a b hb ne = get_or-set_other l (flow_of n i j) (flow_of n a b) _ 0 (λ e. ne (sym (flow_row n a b hb) ∙ ap (λ (p : ℕ). p / n) e ∙ flow_row n i j hj))
+  pub elsewhere_row : (a b : ℕ) → b < n → (a ≡ i → ⊥) → get_or grown (flow_of n a b) 0 ≡ get_or l (flow_of n a b) 0
+  elsewhere_row a b hb ne = get_or-set_other l (flow_of n i j) (flow_of n a b) _ 0 (λ e. ne (sym (flow_row n a b hb) ∙ ap (λ (p : ℕ). p / n) e ∙ flow_row n i j hj))
 
   -- another column
-  elsewhere-column : (a b : ℕ) → b < n → (b ≡ j → ⊥) → get_or grown (flow_of n a b) 0 ≡ get_or l (flow_of n a b) 0
-  elsewhere-column a b hb ne = get_or-set_other l (flow_of n i j) (flow_of n a b) _ 0 (λ e. ne (sym (flow_column n a b hb) ∙ ap (λ (p : ℕ). p % n) e ∙ flow_column n i j hj))
+  elsewhere_column : (a b : ℕ) → b < n → (b ≡ j → ⊥) → get_or grown (flow_of n a b) 0 ≡ get_or l (flow_of n a b) 0
+  elsewhere_column a b hb ne = get_or-set_other l (flow_of n i j) (flow_of n a b) _ 0 (λ e. ne (sym (flow_column n a b hb) ∙ ap (λ (p : ℕ). p % n) e ∙ flow_column n i j hj))
 
-  pub row-grown : row_sum grown n i ≡ row_sum l n i + g
+  pub row_grown : row_sum grown n i ≡ row_sum l n i + g
   unfolding row_sum
-  row-grown = sum_grow (λ b. get_or l (flow_of n i b) 0) (λ b. get_or grown (flow_of n i b) 0) n j g hj grown-here (λ b hb ne. elsewhere-column i b hb ne)
+  row_grown = sum_grow (λ b. get_or l (flow_of n i b) 0) (λ b. get_or grown (flow_of n i b) 0) n j g hj grown_here (λ b hb ne. elsewhere_column i b hb ne)
 
   pub row_kept : (a : ℕ) → (a ≡ i → ⊥) → row_sum grown n a ≡ row_sum l n a
   unfolding row_sum
-  row_kept a ne = sum_ext _ _ n (λ b hb. elsewhere-row a b hb ne)
+  row_kept a ne = sum_ext _ _ n (λ b hb. elsewhere_row a b hb ne)
 
-  pub column-grown : column_sum grown n j ≡ column_sum l n j + g
+  pub column_grown : column_sum grown n j ≡ column_sum l n j + g
   unfolding column_sum
-  column-grown = sum_grow (λ a. get_or l (flow_of n a j) 0) (λ a. get_or grown (flow_of n a j) 0) n i g hi grown-here (λ a ha ne. elsewhere-row a j hj ne)
+  column_grown = sum_grow (λ a. get_or l (flow_of n a j) 0) (λ a. get_or grown (flow_of n a j) 0) n i g hi grown_here (λ a ha ne. elsewhere_row a j hj ne)
 
-  pub column-kept : (b : ℕ) → b < n → (b ≡ j → ⊥) → column_sum grown n b ≡ column_sum l n b
+  pub column_kept : (b : ℕ) → b < n → (b ≡ j → ⊥) → column_sum grown n b ≡ column_sum l n b
   unfolding column_sum
-  column-kept b hb ne = sum_ext _ _ n (λ a ha. elsewhere-column a b hb ne)
+  column_kept b hb ne = sum_ext _ _ n (λ a ha. elsewhere_column a b hb ne)

@@ -9,7 +9,7 @@ use lib.ListN.{length, get_or, set}
 use lib.Seq.{get_or-set_same, get_or-set_other, ext_get_or}
 use Rattle.regulator.specs.Sums.{Holds}
 use Rattle.plan.specs.Below.{list_below}
-use Rattle.plan.proofs.ListLaws.{getD-list}
+use Rattle.plan.proofs.ListLaws.{get_d_list}
 
 -- what holds at i, and at every other number, holds at k
 pub at_or_other : (P : ℕ → Type 0) (k i : ℕ) → P i → ((k ≡ i → ⊥) → P k) → P k
@@ -34,7 +34,7 @@ holds_grown l x y n i g h hi e grown kept k b =
     (λ ne. get_or-set_other l i k (get_or l i 0 + g) 0 ne ∙ e k b ∙ sym (kept k b ne))
 
 pub list_holds : (x : ℕ → ℕ) (m : ℕ) → Holds (list_below x m) x m
-list_holds x m k h = getD-list x m k 0 h
+list_holds x m k h = get_d_list x m k 0 h
 
 -- two lists of one length that hold the same
 pub holds_same : (l o : List ℕ) (x : ℕ → ℕ) (m : ℕ) → length l ≡ m → length o ≡ m → Holds l x m → Holds o x m → l ≡ o

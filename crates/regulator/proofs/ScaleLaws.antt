@@ -15,7 +15,7 @@ use Rattle.regulator.specs.Sums.{larger_sum}
 use Rattle.regulator.specs.Scale.{share_of, scaled_rate, scaled_of, scale_of, ScaledPlan}
 use Rattle.regulator.proofs.SumLaws.{shares_within}
 use Rattle.regulator.proofs.HoldsLaws.{list_holds}
-use Rattle.plan.proofs.ListLaws.{length-list}
+use Rattle.plan.proofs.ListLaws.{length_list}
 use Rattle.plan.proofs.LineLaws.{flow_row, flow_column}
 use Rattle.regulator.proofs.OutcomeLaws.{lists_passed}
 
@@ -61,7 +61,7 @@ scaled_column n t demands j hj =
 
 scaled_length : (n t : ℕ) (demands : List ℕ) → length (scaled_of n t demands) ≡ n * n
 unfolding scaled_of
-scaled_length n t demands = length-list (scaled_rate n t demands) (n * n)
+scaled_length n t demands = length_list (scaled_rate n t demands) (n * n)
 
 pub scaled_plan : ScaledPlan
 unfolding scale_of

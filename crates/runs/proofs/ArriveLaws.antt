@@ -26,8 +26,8 @@ use Rattle.runs.specs.Event.Call.{arrive}
 use Rattle.runs.specs.Run.{OtherLength, answered}
 use Rattle.runs.specs.Promise.{queue_cells}
 use Rattle.runs.proofs.CellLaws.{ring_longer, ring_other}
-use Rattle.runs.proofs.LedgerLaws.{ledger-still}
-use Rattle.runs.proofs.SoundLaws.{Sound, two-between}
+use Rattle.runs.proofs.LedgerLaws.{ledger_still}
+use Rattle.runs.proofs.SoundLaws.{Sound, two_between}
 use Rattle.runs.proofs.FlowPromiseLaws.{EventLaw}
 use Rattle.runs.proofs.QuietLaws.{refused_law, refused_arrival}
 
@@ -44,14 +44,14 @@ module _ {s : Switch} {store : List ℕ} (ok : Sound s store) (p q cell : ℕ) (
   abbrev next : Switch
   next = with_queues s (set s.fabric.queues k (longer waiting))
 
-  abbrev filledStore : List ℕ
-  filledStore = set store (cell_place s.depth k waiting waiting.count) cell
+  abbrev filled_store : List ℕ
+  filled_store = set store (cell_place s.depth k waiting waiting.count) cell
 
-  k-small : k < length s.fabric.queues
-  k-small = omega (arith, flow_below n p q a.board a.head, square_small n ok.plan.few_ports, ok.queues_size)
+  k_small : k < length s.fabric.queues
+  k_small = omega (arith, flow_below n p q a.board a.head, square_small n ok.plan.few_ports, ok.queues_size)
 
-  place-small : cell_place s.depth k waiting waiting.count < length store
-  place-small =
+  place_small : cell_place s.depth k waiting waiting.count < length store
+  place_small =
       omega (
         arith,
         row_within k (n * n) s.depth (flow_below n p q a.board a.head),
@@ -60,22 +60,22 @@ module _ {s : Switch} {store : List ℕ} (ok : Sound s store) (p q cell : ℕ) (
       )
 
   -- the queue of a flow, after the arrival
-  queue-after : (i j : ℕ) → j < n → (flow_of n i j ≡ k → ⊥) → queue_at next (flow_of n i j) ≡ queue_at s (flow_of n i j)
-  queue-after i j hj ne = get_or-set_other s.fabric.queues k (flow_of n i j) (longer waiting) no_queue ne
+  queue_after : (i j : ℕ) → j < n → (flow_of n i j ≡ k → ⊥) → queue_at next (flow_of n i j) ≡ queue_at s (flow_of n i j)
+  queue_after i j hj ne = get_or-set_other s.fabric.queues k (flow_of n i j) (longer waiting) no_queue ne
 
-  queue-same : queue_at next k ≡ longer waiting
-  queue-same = get_or-set_same s.fabric.queues k (longer waiting) no_queue k-small
+  queue_same : queue_at next k ≡ longer waiting
+  queue_same = get_or-set_same s.fabric.queues k (longer waiting) no_queue k_small
 
   -- a fact of every queue, from the one that changed and those that did not
   each : (P : Queue → Type 0) → ((i j : ℕ) → i < n → j < n → P (queue_at s (flow_of n i j))) → P (longer waiting) → (i j : ℕ) → i < n → j < n → P (queue_at next (flow_of n i j))
   each P old new i j hi hj = go (ℕ_discrete (flow_of n i j) k)
     where
       go : Dec (flow_of n i j ≡ k) → P (queue_at next (flow_of n i j))
-      go (yes e) = rw (e, queue-same) new
-      go (no ne) = rw (queue-after i j hj ne) (old i j hi hj)
+      go (yes e) = rw (e, queue_same) new
+      go (no ne) = rw (queue_after i j hj ne) (old i j hi hj)
 
-  sound-arrive : Sound next filledStore
-  sound-arrive =
+  sound_arrive : Sound next filled_store
+  sound_arrive =
       record {
         plan = ok.plan;
         waiting = ok.waiting;
@@ -101,11 +101,11 @@ module _ {s : Switch} {store : List ℕ} (ok : Sound s store) (p q cell : ℕ) (
     abbrev mine : Bool
     mine = eqb p i && eqb q j
 
-    mine-true : flow_of n i j ≡ k → mine ≡ true
-    mine-true e = let same = flow_one n i j p q hj a.head e in rw (eq-eqb p i (sym same.0), eq-eqb q j (sym same.1)) refl
+    mine_true : flow_of n i j ≡ k → mine ≡ true
+    mine_true e = let same = flow_one n i j p q hj a.head e in rw (eq-eqb p i (sym same.0), eq-eqb q j (sym same.1)) refl
 
-    mine-false : (flow_of n i j ≡ k → ⊥) → mine ≡ false
-    mine-false ne = go (eqb p i) refl (eqb q j) refl
+    mine_false : (flow_of n i j ≡ k → ⊥) → mine ≡ false
+    mine_false ne = go (eqb p i) refl (eqb q j) refl
       where
         go : (b : Bool) → eqb p i ≡ b → (c : Bool) → eqb q j ≡ c → (b && c) ≡ false
         go true e true f = absurd (ne (rw (eqb-true p i e, eqb-true q j f) refl))
@@ -113,13 +113,13 @@ module _ {s : Switch} {store : List ℕ} (ok : Sound s store) (p q cell : ℕ) (
         go false e c f = refl
 
     -- the flow's cells are those before and, if it is this flow's, the one that arrived
-    queue-arrive : queue_cells s store (flow_of n i j) ++ cond mine (cell ∷ []) [] ≡ queue_cells next filledStore (flow_of n i j)
-    queue-arrive = go (ℕ_discrete (flow_of n i j) k)
+    queue_arrive : queue_cells s store (flow_of n i j) ++ cond mine (cell ∷ []) [] ≡ queue_cells next filled_store (flow_of n i j)
+    queue_arrive = go (ℕ_discrete (flow_of n i j) k)
       where
-        go : Dec (flow_of n i j ≡ k) → queue_cells s store (flow_of n i j) ++ cond mine (cell ∷ []) [] ≡ queue_cells next filledStore (flow_of n i j)
-        go (yes e) = rw (mine-true e, e, queue-same) (sym (ring_longer store s.depth k cell waiting (ok.place p q a.board a.head) a.room place-small))
+        go : Dec (flow_of n i j ≡ k) → queue_cells s store (flow_of n i j) ++ cond mine (cell ∷ []) [] ≡ queue_cells next filled_store (flow_of n i j)
+        go (yes e) = rw (mine_true e, e, queue_same) (sym (ring_longer store s.depth k cell waiting (ok.place p q a.board a.head) a.room place_small))
         go (no ne) =
-            rw (mine-false ne, queue-after i j hj ne)
+            rw (mine_false ne, queue_after i j hj ne)
             (append-nil _ ∙ sym (ring_other store s.depth (flow_of n i j) k _ cell (queue_at s (flow_of n i j)) ne (mod-lt (waiting.place + waiting.count) ok.some_depth)))
 
 -- The call as a whole, on the run's own store or on a list of another length.
@@ -127,50 +127,50 @@ module _ {s : Switch} {store : List ℕ} (ok : Sound s store) (p q cell : ℕ) w
   abbrev Kept : Event → Type 0
   Kept e = Sound (state_after e) (store_after store e)
 
-  pub arrive-own-keeps : Kept (answered s store (arrive own p q cell))
+  pub arrive_own_keeps : Kept (answered s store (arrive own p q cell))
   unfolding arrive_of
-  arrive-own-keeps = go (arrive_verdict s (length store) p q) refl
+  arrive_own_keeps = go (arrive_verdict s (length store) p q) refl
     where
       go : (v : Verdict) → arrive_verdict s (length store) p q ≡ v → Kept (answered s store (arrive own p q cell))
-      go Accepted e = rw e (sound-arrive ok p q cell (can_arrive s (length store) p q e))
+      go Accepted e = rw e (sound_arrive ok p q cell (can_arrive s (length store) p q e))
       go (Refused r) e = rw e ok
 
   -- a list of another length is refused
-  other-refused : (l : List ℕ) → OtherLength l store → arrive_verdict s (length l) p q ≡ Accepted → ⊥
-  other-refused l ne e = ne ((can_arrive s (length l) p q e).store ∙ sym ok.store_size)
+  other_refused : (l : List ℕ) → OtherLength l store → arrive_verdict s (length l) p q ≡ Accepted → ⊥
+  other_refused l ne e = ne ((can_arrive s (length l) p q e).store ∙ sym ok.store_size)
 
-  pub arrive-other-keeps : (l : List ℕ) → OtherLength l store → Kept (answered s store (arrive (other l) p q cell))
+  pub arrive_other_keeps : (l : List ℕ) → OtherLength l store → Kept (answered s store (arrive (other l) p q cell))
   unfolding arrive_of
-  arrive-other-keeps l ne = go (arrive_verdict s (length l) p q) refl
+  arrive_other_keeps l ne = go (arrive_verdict s (length l) p q) refl
     where
       go : (v : Verdict) → arrive_verdict s (length l) p q ≡ v → Kept (answered s store (arrive (other l) p q cell))
-      go Accepted e = absurd (other-refused l ne e)
+      go Accepted e = absurd (other_refused l ne e)
       go (Refused r) e = rw e ok
 
   module _ (i j : ℕ) (hi : i < s.running.ports) (hj : j < s.running.ports) where
     abbrev Law : Event → Type 0
     Law e = EventLaw s.running.ports s.running.frame i j s store e
 
-    pub arrive-own-law : Law (answered s store (arrive own p q cell))
+    pub arrive_own_law : Law (answered s store (arrive own p q cell))
     unfolding arrive_of
-    arrive-own-law = go (arrive_verdict s (length store) p q) refl
+    arrive_own_law = go (arrive_verdict s (length store) p q) refl
       where
         go : (v : Verdict) → arrive_verdict s (length store) p q ≡ v → Law (answered s store (arrive own p q cell))
         go Accepted e =
             rw e (
             record {
-              ledger = ledger-still s.running.ports s.running.frame i j s _ _ refl refl refl refl refl refl refl refl refl;
-              room = omega (arith, two-between ok i j hi hj);
+              ledger = ledger_still s.running.ports s.running.frame i j s _ _ refl refl refl refl refl refl refl refl refl;
+              room = omega (arith, two_between ok i j hi hj);
               crossing = append-nil _;
-              queue = queue-arrive ok p q cell (can_arrive s (length store) p q e) i j hi hj;
+              queue = queue_arrive ok p q cell (can_arrive s (length store) p q e) i j hi hj;
             }
             )
         go (Refused r) e = rw e (refused_law ok i j hi hj _ refl refl (refused_arrival i j _ p q cell r s _))
 
-    pub arrive-other-law : (l : List ℕ) → OtherLength l store → Law (answered s store (arrive (other l) p q cell))
+    pub arrive_other_law : (l : List ℕ) → OtherLength l store → Law (answered s store (arrive (other l) p q cell))
     unfolding arrive_of
-    arrive-other-law l ne = go (arrive_verdict s (length l) p q) refl
+    arrive_other_law l ne = go (arrive_verdict s (length l) p q) refl
       where
         go : (v : Verdict) → arrive_verdict s (length l) p q ≡ v → Law (answered s store (arrive (other l) p q cell))
-        go Accepted e = absurd (other-refused l ne e)
+        go Accepted e = absurd (other_refused l ne e)
         go (Refused r) e = rw e (refused_law ok i j hi hj _ refl refl (refused_arrival i j _ p q cell r s _))

@@ -38,8 +38,8 @@ module _ {T a t c d x b h m o eb eh : ℕ} (s : OneSlot T a t c d x b h m o eb e
       (lt_or_le b 1)
 
   -- before a service of the head's, the board is not behind
-  head-not-ahead : 1 ≤ h → d ≤ c
-  head-not-ahead one =
+  head_not_ahead : 1 ≤ h → d ≤ c
+  head_not_ahead one =
       let close : d * T < (c + 1) * T = omega (arith, s.head_eligible one, s.board_near.late) in
       omega (arith, lt_of_mul-lt-mul_right T {m = d} {n = c + 1} close)
 
@@ -48,9 +48,9 @@ module _ {T a t c d x b h m o eb eh : ℕ} (s : OneSlot T a t c d x b h m o eb e
   two_at_most = omega (arith, board_ahead, s.balanced, s.board_split)
 
   -- after the sends, x' cells are left
-  pub balanced-after : (x' : ℕ) → x' + o ≡ x + m → x' + (d + h) ≤ c + b + 1
-  balanced-after x' e =
+  pub balanced_after : (x' : ℕ) → x' + o ≡ x + m → x' + (d + h) ≤ c + b + 1
+  balanced_after x' e =
       ⊎_elim
       (λ (none : eh < 1). omega (arith, s.balanced, s.board_split, s.head_split))
-      (λ (some : 1 ≤ eh). omega (arith, s.empty_there some, s.head_split, s.head_once, head-not-ahead (omega (arith, s.head_split))))
+      (λ (some : 1 ≤ eh). omega (arith, s.empty_there some, s.head_split, s.head_once, head_not_ahead (omega (arith, s.head_split))))
       (lt_or_le eh 1)

@@ -19,12 +19,12 @@ use Rattle.runs.proofs.RunLaws.{Allowed, happens_answered}
 use Rattle.runs.proofs.SoundLaws.{Sound}
 use Rattle.runs.proofs.ValidityLaws.{sound_valid}
 use Rattle.runs.proofs.FlowPromiseLaws.{EventLaw}
-use Rattle.runs.proofs.ArriveLaws.{arrive-own-keeps, arrive-other-keeps, arrive-own-law, arrive-other-law}
-use Rattle.runs.proofs.LoadLaws.{load-keeps, load-law}
+use Rattle.runs.proofs.ArriveLaws.{arrive_own_keeps, arrive_other_keeps, arrive_own_law, arrive_other_law}
+use Rattle.runs.proofs.LoadLaws.{load_keeps, load_law}
 use Rattle.runs.proofs.StepLaws.{has_room_lem}
-use Rattle.runs.proofs.StepEventLaws.{step-own-keeps, step-other-keeps, step-own-law, step-other-law}
-use Rattle.runs.proofs.TakeoverLaws.{takeover-sound}
-use Rattle.runs.proofs.VerdictLaws.{Fine, arrive-fine, load-fine, step-fine}
+use Rattle.runs.proofs.StepEventLaws.{step_own_keeps, step_other_keeps, step_own_law, step_other_law}
+use Rattle.runs.proofs.TakeoverLaws.{takeover_sound}
+use Rattle.runs.proofs.VerdictLaws.{Fine, arrive_fine, load_fine, step_fine}
 
 pub record Keeps (s : Switch) (store : List ℕ) (e : Event) : Type 0 where
   pub sound : Sound (state_after e) (store_after store e)
@@ -59,50 +59,50 @@ module _ (s : Switch) (store : List ℕ) where
   step_same ok lent = go (step_verdict s (length lent)) refl
     where
       go : (v : Verdict) → step_verdict s (length lent) ≡ v → SameFrame (step_of s lent).state
-      go Accepted e = rw e ((takeover-sound ok).1.ports, (takeover-sound ok).1.frame)
+      go Accepted e = rw e ((takeover_sound ok).1.ports, (takeover_sound ok).1.frame)
       go (Refused r) e = rw e (refl, refl)
 
 pub call_keeps : (s : Switch) (store : List ℕ) → Sound s store → (c : Call) → Allowed store c → Keeps s store (answered s store c)
 unfolding step_of arrive_of load_of
 call_keeps s store ok (step own) h =
     record {
-      sound = step-own-keeps ok (sound_valid ok);
+      sound = step_own_keeps ok (sound_valid ok);
       ports = (step_same s store ok store).0;
       frame = (step_same s store ok store).1;
-      fine = step-fine s (sound_valid ok) (has_room_lem (takeover-sound ok).0) (length store);
-      flows = step-own-law ok (sound_valid ok);
+      fine = step_fine s (sound_valid ok) (has_room_lem (takeover_sound ok).0) (length store);
+      flows = step_own_law ok (sound_valid ok);
     }
 call_keeps s store ok (step (other l)) h =
     record {
-      sound = step-other-keeps ok (sound_valid ok) l h;
+      sound = step_other_keeps ok (sound_valid ok) l h;
       ports = (step_same s store ok l).0;
       frame = (step_same s store ok l).1;
-      fine = step-fine s (sound_valid ok) (has_room_lem (takeover-sound ok).0) (length l);
-      flows = λ i j hi hj. step-other-law ok (sound_valid ok) i j hi hj l h;
+      fine = step_fine s (sound_valid ok) (has_room_lem (takeover_sound ok).0) (length l);
+      flows = λ i j hi hj. step_other_law ok (sound_valid ok) i j hi hj l h;
     }
 call_keeps s store ok (arrive own i j cell) h =
     record {
-      sound = arrive-own-keeps ok i j cell;
+      sound = arrive_own_keeps ok i j cell;
       ports = (arrive_same s store store i j cell).0;
       frame = (arrive_same s store store i j cell).1;
-      fine = arrive-fine s (sound_valid ok) (length store) i j;
-      flows = arrive-own-law ok i j cell;
+      fine = arrive_fine s (sound_valid ok) (length store) i j;
+      flows = arrive_own_law ok i j cell;
     }
 call_keeps s store ok (arrive (other l) i j cell) h =
     record {
-      sound = arrive-other-keeps ok i j cell l h;
+      sound = arrive_other_keeps ok i j cell l h;
       ports = (arrive_same s store l i j cell).0;
       frame = (arrive_same s store l i j cell).1;
-      fine = arrive-fine s (sound_valid ok) (length l) i j;
-      flows = λ p q hp hq. arrive-other-law ok i j cell p q hp hq l h;
+      fine = arrive_fine s (sound_valid ok) (length l) i j;
+      flows = λ p q hp hq. arrive_other_law ok i j cell p q hp hq l h;
     }
 call_keeps s store ok (load n t rates) h =
     record {
-      sound = load-keeps ok n t rates;
+      sound = load_keeps ok n t rates;
       ports = (load_same s store n t rates).0;
       frame = (load_same s store n t rates).1;
-      fine = load-fine s (sound_valid ok) n t rates;
-      flows = load-law ok n t rates;
+      fine = load_fine s (sound_valid ok) n t rates;
+      flows = load_law ok n t rates;
     }
 
 pub allowed : (s : Switch) (store : List ℕ) (e : Event) → Happens s store e → Allowed store (call_of e)

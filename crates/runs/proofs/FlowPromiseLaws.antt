@@ -14,8 +14,8 @@ use Rattle.runs.specs.Run.{Happens, Follow, final_state, final_store}
 use Rattle.runs.specs.Flow.{collect, accepted_in, moved_in, left_in, accepted, moved, left, slots, NeverEmpty, HasRate, share_up, share_down}
 use Rattle.runs.specs.Promise.{point_cells, queue_cells, Holds}
 use Rattle.runs.proofs.RunLaws.{collect_append, total_append, final_state_append, follow_append}
-use Rattle.runs.proofs.ShareLaws.{share-at-most, share-at-least, share-whole}
-use Rattle.runs.proofs.LedgerLaws.{held, byBoard, byHead, headServices, AtRest, NearEnds, Ledger, ledger-none, ledger-append}
+use Rattle.runs.proofs.ShareLaws.{share_at_most, share_at_least, share_whole}
+use Rattle.runs.proofs.LedgerLaws.{held, by_board, by_head, head_services, AtRest, NearEnds, Ledger, ledger_none, ledger_append}
 
 -- one event, for the flow (i, j) of a switch of n ports and frames of T slots
 pub record EventLaw (n T i j : ℕ) (s : Switch) (store : List ℕ) (e : Event) : Type 0 where
@@ -28,8 +28,8 @@ pub record EventLaw (n T i j : ℕ) (s : Switch) (store : List ℕ) (e : Event) 
 -- what is known of one flow between two calls
 pub record FlowState (n T i j : ℕ) (s : Switch) : Type 0 where
   -- no more cells in the crosspoint than the board is ahead of the head, and one
-  pub balanced : held n T i j s + byHead n T i j s ≤ byBoard n T i j s + 1
-  pub board_ahead : byBoard n T i j s ≤ byHead n T i j s + 1
+  pub balanced : held n T i j s + by_head n T i j s ≤ by_board n T i j s + 1
+  pub board_ahead : by_board n T i j s ≤ by_head n T i j s + 1
   pub room : held n T i j s ≤ 2
 
 module _
@@ -40,39 +40,39 @@ module _
     (knows : (s : Switch) (store : List ℕ) → Sound s store → FlowState n T i j s)
     (law : (s : Switch) (store : List ℕ) (e : Event) → Sound s store → Happens s store e → EventLaw n T i j s store e)
   where
-    sound-run : (s : Switch) (store : List ℕ) (es : List Event) → Sound s store → Follow s store es → Sound (final_state s es) (final_store store es)
-    sound-run s store [] ok h = ok
-    sound-run s store (e ∷ es) ok h = sound-run (state_after e) (store_after store e) es (keeps s store e ok h.0) h.1
+    sound_run : (s : Switch) (store : List ℕ) (es : List Event) → Sound s store → Follow s store es → Sound (final_state s es) (final_store store es)
+    sound_run s store [] ok h = ok
+    sound_run s store (e ∷ es) ok h = sound_run (state_after e) (store_after store e) es (keeps s store e ok h.0) h.1
 
-    ledger-run : (s : Switch) (store : List ℕ) (es : List Event) → Sound s store → Follow s store es → Ledger n T i j s (final_state s es) es
-    ledger-run s store [] ok h = ledger-none n T i j s
-    ledger-run s store (e ∷ es) ok h =
-        ledger-append n T i j (e ∷ []) es (law s store e ok h.0).ledger
-        (ledger-run (state_after e) (store_after store e) es (keeps s store e ok h.0) h.1)
+    ledger_run : (s : Switch) (store : List ℕ) (es : List Event) → Sound s store → Follow s store es → Ledger n T i j s (final_state s es) es
+    ledger_run s store [] ok h = ledger_none n T i j s
+    ledger_run s store (e ∷ es) ok h =
+        ledger_append n T i j (e ∷ []) es (law s store e ok h.0).ledger
+        (ledger_run (state_after e) (store_after store e) es (keeps s store e ok h.0) h.1)
 
-    pub crossing-run : (s : Switch) (store : List ℕ) (es : List Event) → Sound s store → Follow s store es
+    pub crossing_run : (s : Switch) (store : List ℕ) (es : List Event) → Sound s store → Follow s store es
         → point_cells s (flow_of n i j) ++ moved i j es ≡ left i j es ++ point_cells (final_state s es) (flow_of n i j)
     unfolding collect
-    crossing-run s store [] ok h = append-nil _
-    crossing-run s store (e ∷ es) ok h =
+    crossing_run s store [] ok h = append-nil _
+    crossing_run s store (e ∷ es) ok h =
         rw (
           ← append_assoc,
           (law s store e ok h.0).crossing,
           append_assoc,
-          crossing-run (state_after e) (store_after store e) es (keeps s store e ok h.0) h.1,
+          crossing_run (state_after e) (store_after store e) es (keeps s store e ok h.0) h.1,
           append_assoc,
         )
 
-    pub queue-run : (s : Switch) (store : List ℕ) (es : List Event) → Sound s store → Follow s store es
+    pub queue_run : (s : Switch) (store : List ℕ) (es : List Event) → Sound s store → Follow s store es
         → queue_cells s store (flow_of n i j) ++ accepted i j es ≡ moved i j es ++ queue_cells (final_state s es) (final_store store es) (flow_of n i j)
     unfolding collect
-    queue-run s store [] ok h = append-nil _
-    queue-run s store (e ∷ es) ok h =
+    queue_run s store [] ok h = append-nil _
+    queue_run s store (e ∷ es) ok h =
         rw (
           ← append_assoc,
           (law s store e ok h.0).queue,
           append_assoc,
-          queue-run (state_after e) (store_after store e) es (keeps s store e ok h.0) h.1,
+          queue_run (state_after e) (store_after store e) es (keeps s store e ok h.0) h.1,
           append_assoc,
         )
 
@@ -90,27 +90,27 @@ module _
           follows : Follow s₀ store₀ before × Follow (final_state s₀ before) (final_store store₀ before) after
           follows = follow_append s₀ store₀ before after (subst (Follow s₀ store₀) cut follow)
 
-          sound-there : Sound (final_state s₀ before) (final_store store₀ before)
-          sound-there = sound-run s₀ store₀ before sound follows.0
+          sound_there : Sound (final_state s₀ before) (final_store store₀ before)
+          sound_there = sound_run s₀ store₀ before sound follows.0
 
-          known-there : FlowState n T i j (final_state s₀ before)
-          known-there = knows _ _ sound-there
+          known_there : FlowState n T i j (final_state s₀ before)
+          known_there = knows _ _ sound_there
 
-          ledger-there : Ledger n T i j s₀ (final_state s₀ before) before
-          ledger-there = ledger-run s₀ store₀ before sound follows.0
+          ledger_there : Ledger n T i j s₀ (final_state s₀ before) before
+          ledger_there = ledger_run s₀ store₀ before sound follows.0
 
-          pub holds-between : Holds i j before before
-          holds-between =
+          pub holds_between : Holds i j before before
+          holds_between =
               record {
-                never_below = omega (arith, ledger-there.cells, no_cell);
-                two_at_most = omega (arith, ledger-there.cells, no_cell, known-there.room);
+                never_below = omega (arith, ledger_there.cells, no_cell);
+                two_at_most = omega (arith, ledger_there.cells, no_cell, known_there.room);
               }
 
-        pub holds-midway : (before : List Event) (e : Event) (after : List Event) → es ≡ before ++ (e ∷ after) → Holds i j (before ++ (e ∷ [])) before
+        pub holds_midway : (before : List Event) (e : Event) (after : List Event) → es ≡ before ++ (e ∷ after) → Holds i j (before ++ (e ∷ [])) before
         unfolding collect
-        holds-midway before e after cut =
-            let one = law _ _ e (sound-there before (e ∷ after) cut) (follows before (e ∷ after) cut).1.0 in
-            let books = ledger-there before (e ∷ after) cut in
+        holds_midway before e after cut =
+            let one = law _ _ e (sound_there before (e ∷ after) cut) (follows before (e ∷ after) cut).1.0 in
+            let books = ledger_there before (e ∷ after) cut in
             let into = ap length (collect_append (moved_in i j) before (e ∷ [])) ∙ length-append (moved i j before) (moved_in i j e ++ []) in
             let last = length-append (moved_in i j e) [] in
             record {
@@ -134,20 +134,20 @@ module _
 
           known_from : FlowState n T i j from
           unfolding from
-          known_from = known-there before (stretch ++ after) cut
+          known_from = known_there before (stretch ++ after) cut
 
-          known-upto : FlowState n T i j upto
+          known_upto : FlowState n T i j upto
           unfolding from upto
-          known-upto = subst (FlowState n T i j) (final_state_append s₀ before stretch) (known-there (before ++ stretch) after joined)
+          known_upto = subst (FlowState n T i j) (final_state_append s₀ before stretch) (known_there (before ++ stretch) after joined)
 
           books : Ledger n T i j from upto stretch
           unfolding from upto
-          books = ledger-run from (final_store store₀ before) stretch (sound-there before (stretch ++ after) cut) there
+          books = ledger_run from (final_store store₀ before) stretch (sound_there before (stretch ++ after) cut) there
 
           S : ℕ
-          S = headServices n T i j stretch
+          S = head_services n T i j stretch
 
-          at_rest : slots stretch ≡ 0 → byHead n T i j upto ≡ byHead n T i j from → upto.slot ≡ from.slot → S ≡ 0
+          at_rest : slots stretch ≡ 0 → by_head n T i j upto ≡ by_head n T i j from → upto.slot ≡ from.slot → S ≡ 0
           unfolding S
           at_rest p d t =
               omega (
@@ -156,7 +156,7 @@ module _
                 ap (λ (x : ℕ). x * a) p,
                 ap (λ (x : ℕ). x * T) d,
                 ap (λ (x : ℕ). x * a) t,
-                le-mul_of_pos_right {m = T} (headServices n T i j stretch) some_slot,
+                le-mul_of_pos_right {m = T} (head_services n T i j stretch) some_slot,
               )
 
           pub at_most : length (left i j stretch) ≤ share_up (slots stretch) a T + 1
@@ -165,27 +165,27 @@ module _
               ⊎_elim
               (λ (p : AtRest n T i j from upto stretch). omega (arith, at_rest p.0 p.1 p.2))
               (λ (p : NearEnds n T i j a from upto).
-              omega (arith, share-at-most T a _ _ _ _ _ _ (books.share a rate) p.0 p.1))
+              omega (arith, share_at_most T a _ _ _ _ _ _ (books.share a rate) p.0 p.1))
               (books.edges a rate)
 
-          services-at-least : share_down (slots stretch) a T ≤ S + 1
+          services_at_least : share_down (slots stretch) a T ≤ S + 1
           unfolding S
-          services-at-least =
+          services_at_least =
               ⊎_elim
               (λ (p : AtRest n T i j from upto stretch). rw (p.0, zero-mul, zero-div) (omega arith))
               (λ (p : NearEnds n T i j a from upto).
-              share-at-least T a _ _ _ _ _ _ (books.share a rate) p.0 p.1)
+              share_at_least T a _ _ _ _ _ _ (books.share a rate) p.0 p.1)
               (books.edges a rate)
 
           -- where the board begins ahead, the head has not passed its share
-          services-whole : byHead n T i j from < byBoard n T i j from → share_down (slots stretch) a T ≤ S
+          services_whole : by_head n T i j from < by_board n T i j from → share_down (slots stretch) a T ≤ S
           unfolding S
-          services-whole ahead =
+          services_whole ahead =
               ⊎_elim
               (λ (p : AtRest n T i j from upto stretch). rw (p.0, zero-mul, zero-div) (omega arith))
               (λ (p : NearEnds n T i j a from upto).
-              let one : byBoard n T i j from ≡ byHead n T i j from + 1 = omega (arith, known_from.board_ahead) in
-              share-whole T a _ _ _ _ _ _ (books.share a rate) p.0 p.1 (omega (arith, p.2, ap (λ (x : ℕ). x * T) one)))
+              let one : by_board n T i j from ≡ by_head n T i j from + 1 = omega (arith, known_from.board_ahead) in
+              share_whole T a _ _ _ _ _ _ (books.share a rate) p.0 p.1 (omega (arith, p.2, ap (λ (x : ℕ). x * T) one)))
               (books.edges a rate)
 
           -- The head is empty twice at most, and once at most where the board doesn't begin ahead.
@@ -193,8 +193,8 @@ module _
           unfolding S
           at_least never =
               ⊎_elim
-              (λ (ahead : byHead n T i j from < byBoard n T i j from).
-              omega (arith, services-whole ahead, books.empties, never, known_from.board_ahead, known-upto.balanced))
-              (λ (level : byBoard n T i j from ≤ byHead n T i j from).
-              omega (arith, services-at-least, books.empties, never, known-upto.balanced))
-              (lt_or_le (byHead n T i j from) (byBoard n T i j from))
+              (λ (ahead : by_head n T i j from < by_board n T i j from).
+              omega (arith, services_whole ahead, books.empties, never, known_from.board_ahead, known_upto.balanced))
+              (λ (level : by_board n T i j from ≤ by_head n T i j from).
+              omega (arith, services_at_least, books.empties, never, known_upto.balanced))
+              (lt_or_le (by_head n T i j from) (by_board n T i j from))

@@ -28,22 +28,22 @@ module _ (n T i j : ℕ) where
   abbrev pub held : Switch → ℕ
   held s = (point_at s (flow_of n i j)).count
 
-  abbrev pub byBoard : Switch → ℕ
-  byBoard s = board_count s i j
+  abbrev pub by_board : Switch → ℕ
+  by_board s = board_count s i j
 
-  abbrev pub byHead : Switch → ℕ
-  byHead s = head_count s i j
+  abbrev pub by_head : Switch → ℕ
+  by_head s = head_count s i j
 
-  abbrev pub headServices : List Event → ℕ
-  headServices es = length (left i j es) + total (head_empty_in i j) es
+  abbrev pub head_services : List Event → ℕ
+  head_services es = length (left i j es) + total (head_empty_in i j) es
 
   -- no slot passed
   abbrev pub AtRest : Switch → Switch → List Event → Type 0
-  AtRest s s' es = (slots es ≡ 0) × (byHead s' ≡ byHead s) × (s'.slot ≡ s.slot) × (byBoard s ≤ byBoard s')
+  AtRest s s' es = (slots es ≡ 0) × (by_head s' ≡ by_head s) × (s'.slot ≡ s.slot) × (by_board s ≤ by_board s')
 
   -- the head is near its share at both ends, and the board begins one ahead of its own at most
   abbrev pub NearEnds : ℕ → Switch → Switch → Type 0
-  NearEnds a s s' = Near T a (byHead s) s.slot × Near T a (byHead s') s'.slot × (byBoard s * T ≤ s.slot * a + T)
+  NearEnds a s s' = Near T a (by_head s) s.slot × Near T a (by_head s') s'.slot × (by_board s * T ≤ s.slot * a + T)
 
   abbrev pub Edges : ℕ → Switch → Switch → List Event → Type 0
   Edges a s s' es = AtRest s s' es ⊎ NearEnds a s s'
@@ -53,46 +53,46 @@ module _ (n T i j : ℕ) where
     pub cells : held s' + length (left i j es) ≡ held s + length (moved i j es)
     -- what is held and served by the head, less what is served by the board, grows by empty head services and falls by
     -- empty board services
-    pub empties : total (head_empty_in i j) es + held s + byHead s + byBoard s' ≡ held s' + byHead s' + byBoard s + total (board_empty_in i j) es
-    pub share : (a : ℕ) → HasRate i j a es → Share T a (headServices es) (slots es) (byHead s) s.slot (byHead s') s'.slot
+    pub empties : total (head_empty_in i j) es + held s + by_head s + by_board s' ≡ held s' + by_head s' + by_board s + total (board_empty_in i j) es
+    pub share : (a : ℕ) → HasRate i j a es → Share T a (head_services es) (slots es) (by_head s) s.slot (by_head s') s'.slot
     pub edges : (a : ℕ) → HasRate i j a es → Edges a s s' es
 
-  pub ledger-none : (s : Switch) → Ledger s s []
+  pub ledger_none : (s : Switch) → Ledger s s []
   unfolding total collect
-  ledger-none s = record { cells = refl; empties = omega arith; share = λ a h. omega arith; edges = λ a h. inl (refl, refl, refl, omega arith) }
+  ledger_none s = record { cells = refl; empties = omega arith; share = λ a h. omega arith; edges = λ a h. inl (refl, refl, refl, omega arith) }
 
-  rate-append : (a : ℕ) (es fs : List Event) → HasRate i j a (es ++ fs) → HasRate i j a es × HasRate i j a fs
-  rate-append a [] fs h = (tt, h)
-  rate-append a (e ∷ es) fs h = let rest = rate-append a es fs h.1 in ((h.0, rest.0), rest.1)
+  rate_append : (a : ℕ) (es fs : List Event) → HasRate i j a (es ++ fs) → HasRate i j a es × HasRate i j a fs
+  rate_append a [] fs h = (tt, h)
+  rate_append a (e ∷ es) fs h = let rest = rate_append a es fs h.1 in ((h.0, rest.0), rest.1)
 
-  edges-append : (a : ℕ) (s s' s'' : Switch) (es fs : List Event) → Edges a s s' es → Edges a s' s'' fs → Edges a s s'' (es ++ fs)
-  edges-append a s s' s'' es fs (inl (p, d, t, c)) (inl (q, d', t', c')) =
+  edges_append : (a : ℕ) (s s' s'' : Switch) (es fs : List Event) → Edges a s s' es → Edges a s' s'' fs → Edges a s s'' (es ++ fs)
+  edges_append a s s' s'' es fs (inl (p, d, t, c)) (inl (q, d', t', c')) =
       inl (omega (arith, total_append slots_in es fs), d' ∙ d, t' ∙ t, omega (arith, c, c'))
-  edges-append a s s' s'' es fs (inl (p, d, t, c)) (inr (begin, end, board)) =
+  edges_append a s s' s'' es fs (inl (p, d, t, c)) (inr (begin, end, board)) =
       inr (rw (sym d, sym t) begin, end, omega (arith, board, mul-le-mul_right T c, ap (λ (x : ℕ). x * a) t))
-  edges-append a s s' s'' es fs (inr (begin, end, board)) (inl (q, d', t', c')) = inr (begin, rw (d', t') end, board)
-  edges-append a s s' s'' es fs (inr (begin, end, board)) (inr (begin', end', board')) = inr (begin, end', board)
+  edges_append a s s' s'' es fs (inr (begin, end, board)) (inl (q, d', t', c')) = inr (begin, rw (d', t') end, board)
+  edges_append a s s' s'' es fs (inr (begin, end, board)) (inr (begin', end', board')) = inr (begin, end', board)
 
-  pub ledger-append : {s s' s'' : Switch} (es fs : List Event) → Ledger s s' es → Ledger s' s'' fs → Ledger s s'' (es ++ fs)
-  ledger-append {s} {s'} {s''} es fs l m =
+  pub ledger_append : {s s' s'' : Switch} (es fs : List Event) → Ledger s s' es → Ledger s' s'' fs → Ledger s s'' (es ++ fs)
+  ledger_append {s} {s'} {s''} es fs l m =
       let out = ap length (collect_append (left_in i j) es fs) ∙ length-append (left i j es) (left i j fs) in
       let into = ap length (collect_append (moved_in i j) es fs) ∙ length-append (moved i j es) (moved i j fs) in
-      let services : headServices (es ++ fs) ≡ headServices es + headServices fs = omega (arith, out, total_append (head_empty_in i j) es fs) in
+      let services : head_services (es ++ fs) ≡ head_services es + head_services fs = omega (arith, out, total_append (head_empty_in i j) es fs) in
       let dry = total_append (head_empty_in i j) es fs in
       let dryBoard = total_append (board_empty_in i j) es fs in
       record {
         cells = omega (arith, l.cells, m.cells);
         empties = omega (arith, l.empties, m.empties);
-        share = λ a h. let both = rate-append a es fs h in rw (services, total_append slots_in es fs) (share_join T a _ _ _ _ _ _ _ _ _ _ (l.share a both.0) (m.share a both.1));
-        edges = λ a h. let both = rate-append a es fs h in edges-append a s s' s'' es fs (l.edges a both.0) (m.edges a both.1);
+        share = λ a h. let both = rate_append a es fs h in rw (services, total_append slots_in es fs) (share_join T a _ _ _ _ _ _ _ _ _ _ (l.share a both.0) (m.share a both.1));
+        edges = λ a h. let both = rate_append a es fs h in edges_append a s s' s'' es fs (l.edges a both.0) (m.edges a both.1);
       }
 
   -- an event in which the flow's crosspoint and ports, and the slot, stay as they are
-  pub ledger-still : (s s' : Switch) (e : Event) → held s' ≡ held s → byBoard s' ≡ byBoard s → byHead s' ≡ byHead s → s'.slot ≡ s.slot
+  pub ledger_still : (s s' : Switch) (e : Event) → held s' ≡ held s → by_board s' ≡ by_board s → by_head s' ≡ by_head s → s'.slot ≡ s.slot
       → moved_in i j e ≡ [] → left_in i j e ≡ [] → slots_in e ≡ 0 → head_empty_in i j e ≡ 0 → board_empty_in i j e ≡ 0
       → Ledger s s' (e ∷ [])
   unfolding total collect
-  ledger-still s s' e x c d t m l n h b =
+  ledger_still s s' e x c d t m l n h b =
       let into = ap length (append-nil (moved_in i j e) ∙ m) in
       let out = ap length (append-nil (left_in i j e) ∙ l) in
       record {

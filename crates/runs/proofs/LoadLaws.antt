@@ -20,19 +20,19 @@ use Rattle.runs.proofs.FlowPromiseLaws.{EventLaw}
 use Rattle.runs.proofs.QuietLaws.{quiet_law, any_load}
 
 module _ {s : Switch} {store : List ℕ} (ok : Sound s store) (n t : ℕ) (rates : List ℕ) where
-  abbrev loadedPlan : Plan
-  loadedPlan = record { ports = n; frame = t; rates = overlaid s.waiting.rates rates (n * n) }
+  abbrev loaded_plan : Plan
+  loaded_plan = record { ports = n; frame = t; rates = overlaid s.waiting.rates rates (n * n) }
 
-  plan-in : CanLoad s n t rates → PlanIn s.running.ports s.running.frame loadedPlan
-  plan-in l =
+  plan_in : CanLoad s n t rates → PlanIn s.running.ports s.running.frame loaded_plan
+  plan_in l =
       let same = take_overlaid s.waiting.rates rates (n * n) l.plan.square (omega (arith, square_small n l.plan.few_ports, ok.waiting_size)) in
       record { ports = l.ports; frame = l.frame; plan = rw (same, sym l.ports, sym l.frame) l.plan }
 
-  pub sound-load : CanLoad s n t rates → Sound (with_plans s s.running loadedPlan 1) store
-  sound-load l =
+  pub sound_load : CanLoad s n t rates → Sound (with_plans s s.running loaded_plan 1) store
+  sound_load l =
       record {
         plan = ok.plan;
-        waiting = λ _. plan-in l;
+        waiting = λ _. plan_in l;
         some_depth = ok.some_depth;
         few_cells = ok.few_cells;
         in_frame = ok.in_frame;
@@ -54,22 +54,22 @@ module _ {s : Switch} {store : List ℕ} (ok : Sound s store) (n t : ℕ) (rates
   abbrev Kept : Event → Type 0
   Kept e = Sound (state_after e) (store_after store e)
 
-  pub load-keeps : Kept (answered s store (load n t rates))
+  pub load_keeps : Kept (answered s store (load n t rates))
   unfolding load_of
-  load-keeps = go (load_verdict s n t rates) refl
+  load_keeps = go (load_verdict s n t rates) refl
     where
       go : (v : Verdict) → load_verdict s n t rates ≡ v → Kept (answered s store (load n t rates))
-      go Accepted e = rw e (sound-load (can_load s n t rates e))
+      go Accepted e = rw e (sound_load (can_load s n t rates e))
       go (Refused r) e = rw e ok
 
   module _ (i j : ℕ) (hi : i < s.running.ports) (hj : j < s.running.ports) where
     abbrev Law : Event → Type 0
     Law e = EventLaw s.running.ports s.running.frame i j s store e
 
-    pub load-law : Law (answered s store (load n t rates))
+    pub load_law : Law (answered s store (load n t rates))
     unfolding load_of
-    load-law = go (load_verdict s n t rates) refl
+    load_law = go (load_verdict s n t rates) refl
       where
         go : (v : Verdict) → load_verdict s n t rates ≡ v → Law (answered s store (load n t rates))
-        go Accepted e = rw e (quiet_law ok i j hi hj _ s.running loadedPlan 1 refl refl (any_load i j n t rates _))
+        go Accepted e = rw e (quiet_law ok i j hi hj _ s.running loaded_plan 1 refl refl (any_load i j n t rates _))
         go (Refused r) e = rw e (quiet_law ok i j hi hj _ s.running s.waiting s.waits refl refl (any_load i j n t rates _))

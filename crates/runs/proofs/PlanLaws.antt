@@ -41,8 +41,8 @@ arrive_only s lent i j cell = go (arrive_verdict s (length lent) i j) refl
     go (Refused r) e = rw e refl
 
 module _ {s : Switch} {store : List ℕ} (ok : Sound s store) where
-  takeover-standing : standing (takeover_of s) ≡ standing s
-  takeover-standing = go (takes_over s) refl
+  takeover_standing : standing (takeover_of s) ≡ standing s
+  takeover_standing = go (takes_over s) refl
     where
       go : (b : Bool) → takes_over s ≡ b → standing (takeover_of s) ≡ standing s
       go false e = rw (not_taken s e) refl
@@ -52,8 +52,8 @@ module _ {s : Switch} {store : List ℕ} (ok : Sound s store) where
           rw (taken s e, w) (taken_rates s.running s.waiting (rw p.ports ok.plan.few_ports) ok.running_size ok.waiting_size)
 
   -- after a takeover none waits
-  none-waits : s.slot ≡ 0 → has_waiting (takeover_of s) ≡ false
-  none-waits zero = go (has_waiting s) refl
+  none_waits_lem : s.slot ≡ 0 → has_waiting (takeover_of s) ≡ false
+  none_waits_lem zero = go (has_waiting s) refl
     where
       here : {b : Bool} → has_waiting s ≡ b → takes_over s ≡ b
       here e = rw (eq-eqb s.slot 0 zero, e) refl
@@ -63,42 +63,42 @@ module _ {s : Switch} {store : List ℕ} (ok : Sound s store) where
       go true e = rw (taken s (here e)) refl
 
   -- in slot 0 the plan accepted last runs
-  step-runs : (lent : List ℕ) → s.slot ≡ 0 → (step_of s lent).verdict ≡ Accepted → plan_rates (step_of s lent).state.running ≡ standing s
+  step_runs : (lent : List ℕ) → s.slot ≡ 0 → (step_of s lent).verdict ≡ Accepted → plan_rates (step_of s lent).state.running ≡ standing s
   unfolding step_of after_slot
-  step-runs lent zero e =
-      let running : plan_rates (takeover_of s).running ≡ standing (takeover_of s) = rw (none-waits zero) refl in
-      rw e (running ∙ takeover-standing)
+  step_runs lent zero e =
+      let running : plan_rates (takeover_of s).running ≡ standing (takeover_of s) = rw (none_waits_lem zero) refl in
+      rw e (running ∙ takeover_standing)
 
-  step-standing : (lent : List ℕ) → standing (step_of s lent).state ≡ standing s
+  step_standing : (lent : List ℕ) → standing (step_of s lent).state ≡ standing s
   unfolding step_of after_slot
-  step-standing lent = go (step_verdict s (length lent)) refl
+  step_standing lent = go (step_verdict s (length lent)) refl
     where
       go : (v : Verdict) → step_verdict s (length lent) ≡ v → standing (step_of s lent).state ≡ standing s
-      go Accepted e = rw e takeover-standing
+      go Accepted e = rw e takeover_standing
       go (Refused r) e = rw e refl
 
-  load-standing : (n t : ℕ) (rates : List ℕ) → standing (load_of s n t rates).state ≡ if_accepted (load_verdict s n t rates) rates (standing s)
+  load_standing : (n t : ℕ) (rates : List ℕ) → standing (load_of s n t rates).state ≡ if_accepted (load_verdict s n t rates) rates (standing s)
   unfolding load_of
-  load-standing n t rates = go (load_verdict s n t rates) refl
+  load_standing n t rates = go (load_verdict s n t rates) refl
     where
       go : (v : Verdict) → load_verdict s n t rates ≡ v → standing (load_of s n t rates).state ≡ if_accepted (load_verdict s n t rates) rates (standing s)
       go Accepted e = rw e (laid_rates s.waiting.rates n t rates ok.waiting_size (can_load s n t rates e).plan)
       go (Refused r) e = rw e refl
 
-  pub call-runs : (c : Call) → BeginsFrame s (answered s store c) → plan_rates (state_after (answered s store c)).running ≡ standing s
-  call-runs (step own) b = step-runs store b.1 b.0
-  call-runs (step (other l)) b = step-runs l b.1 b.0
-  call-runs (arrive own i j cell) b = absurd b
-  call-runs (arrive (other l) i j cell) b = absurd b
-  call-runs (load n t rates) b = absurd b
+  pub call_runs : (c : Call) → BeginsFrame s (answered s store c) → plan_rates (state_after (answered s store c)).running ≡ standing s
+  call_runs (step own) b = step_runs store b.1 b.0
+  call_runs (step (other l)) b = step_runs l b.1 b.0
+  call_runs (arrive own i j cell) b = absurd b
+  call_runs (arrive (other l) i j cell) b = absurd b
+  call_runs (load n t rates) b = absurd b
 
-  pub call-standing : (c : Call) → standing (state_after (answered s store c)) ≡ accepted_after (standing s) (answered s store c)
+  pub call_standing : (c : Call) → standing (state_after (answered s store c)) ≡ accepted_after (standing s) (answered s store c)
   unfolding load_of
-  call-standing (step own) = step-standing store
-  call-standing (step (other l)) = step-standing l
-  call-standing (arrive own i j cell) = ap standing (arrive_only s store i j cell)
-  call-standing (arrive (other l) i j cell) = ap standing (arrive_only s l i j cell)
-  call-standing (load n t rates) = load-standing n t rates
+  call_standing (step own) = step_standing store
+  call_standing (step (other l)) = step_standing l
+  call_standing (arrive own i j cell) = ap standing (arrive_only s store i j cell)
+  call_standing (arrive (other l) i j cell) = ap standing (arrive_only s l i j cell)
+  call_standing (load n t rates) = load_standing n t rates
 
 -- The running plan stays, but in slot 0.
 module _ (s : Switch) (store : List ℕ) where
@@ -108,13 +108,13 @@ module _ (s : Switch) (store : List ℕ) where
     where
       go : (v : Verdict) → step_verdict s (length lent) ≡ v → (step_of s lent).state.running ≡ s.running
       go Accepted e =
-          let not-here : takes_over s ≡ false = rw (ne_eqb s.slot 0 (h e)) refl in
-          rw (e, not_taken s not-here) refl
+          let not_here : takes_over s ≡ false = rw (ne_eqb s.slot 0 (h e)) refl in
+          rw (e, not_taken s not_here) refl
       go (Refused r) e = rw e refl
 
-  load-stays : (n t : ℕ) (rates : List ℕ) → (load_of s n t rates).state.running ≡ s.running
+  load_stays : (n t : ℕ) (rates : List ℕ) → (load_of s n t rates).state.running ≡ s.running
   unfolding load_of
-  load-stays n t rates = go (load_verdict s n t rates) refl
+  load_stays n t rates = go (load_verdict s n t rates) refl
     where
       go : (v : Verdict) → load_verdict s n t rates ≡ v → (load_of s n t rates).state.running ≡ s.running
       go Accepted e = rw e refl
@@ -125,4 +125,4 @@ module _ (s : Switch) (store : List ℕ) where
   call_stays (step (other l)) h = step_stays l (λ e z. h (e, z))
   call_stays (arrive own i j cell) h = ap (λ (u : Switch). u.running) (arrive_only s store i j cell)
   call_stays (arrive (other l) i j cell) h = ap (λ (u : Switch). u.running) (arrive_only s l i j cell)
-  call_stays (load n t rates) h = load-stays n t rates
+  call_stays (load n t rates) h = load_stays n t rates

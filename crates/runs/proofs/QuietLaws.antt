@@ -16,8 +16,8 @@ use Rattle.crossbar.specs.declared.state.Switch.{Switch}
 use Rattle.runs.specs.Event.{Lent, Event, state_after, store_after}
 use Rattle.runs.specs.Event.Event.{stepped, arrived, loaded}
 use Rattle.runs.specs.Flow.{accepted_in, moved_in, left_in, slots_in, board_empty_in}
-use Rattle.runs.proofs.LedgerLaws.{head_empty_in, ledger-still}
-use Rattle.runs.proofs.SoundLaws.{Sound, two-between}
+use Rattle.runs.proofs.LedgerLaws.{head_empty_in, ledger_still}
+use Rattle.runs.proofs.SoundLaws.{Sound, two_between}
 use Rattle.runs.proofs.FlowPromiseLaws.{EventLaw}
 
 pub record Quiet (i j : ℕ) (e : Event) : Type 0 where
@@ -34,8 +34,8 @@ pub quiet_law : {s : Switch} {store : List ℕ} → Sound s store → (i j : ℕ
     → EventLaw s.running.ports s.running.frame i j s store e
 quiet_law {s} {store} ok i j hi hj e running waiting waits to left q =
     record {
-      ledger = rw to (ledger-still _ _ i j s (with_plans s running waiting waits) e refl refl refl refl q.moved q.left q.slots q.heads q.boards);
-      room = rw q.moved (omega (arith, two-between ok i j hi hj));
+      ledger = rw to (ledger_still _ _ i j s (with_plans s running waiting waits) e refl refl refl refl q.moved q.left q.slots q.heads q.boards);
+      room = rw q.moved (omega (arith, two_between ok i j hi hj));
       crossing = rw (to, q.moved, q.left) (append-nil _);
       queue = rw (to, left, q.accepted, q.moved) (append-nil _);
     }

@@ -24,9 +24,9 @@ use Rattle.runs.specs.Plans.{BeginsFrame, PutsInWaiting, StillWaits, while_waiti
 use Rattle.runs.proofs.RunLaws.{happens_answered}
 use Rattle.runs.proofs.SoundLaws.{Sound}
 use Rattle.runs.proofs.ValidityLaws.{sound_valid}
-use Rattle.runs.proofs.LoadLaws.{sound-load}
+use Rattle.runs.proofs.LoadLaws.{sound_load}
 use Rattle.runs.proofs.StepLaws.{has_room_lem}
-use Rattle.runs.proofs.TakeoverLaws.{takeover-sound}
+use Rattle.runs.proofs.TakeoverLaws.{takeover_sound}
 use Rattle.runs.proofs.CallLaws.{call_keeps, allowed}
 
 module _ (n t : ℕ) (rates : List ℕ) where
@@ -34,78 +34,78 @@ module _ (n t : ℕ) (rates : List ℕ) where
   abbrev with : Switch → Switch
   with s = with_waiting s n t rates
 
-  abbrev replyWith : Reply → Reply
-  replyWith r = record { verdict = r.verdict; state = with r.state }
+  abbrev reply_with : Reply → Reply
+  reply_with r = record { verdict = r.verdict; state = with r.state }
 
-  abbrev slotWith : SlotReply → SlotReply
-  slotWith r = record { verdict = r.verdict; state = with r.state; moves = r.moves; sends = r.sends }
+  abbrev slot_with : SlotReply → SlotReply
+  slot_with r = record { verdict = r.verdict; state = with r.state; moves = r.moves; sends = r.sends }
 
   -- One call.
   module _ {s : Switch} {store : List ℕ} (ok : Sound s store) (can : CanLoad s n t rates) where
-    sound-with : Sound (with s) store
-    sound-with = sound-load ok n t rates can
+    sound_with : Sound (with s) store
+    sound_with = sound_load ok n t rates can
 
-    arrive-verdict : (len i j : ℕ) → arrive_verdict (with s) len i j ≡ arrive_verdict s len i j
+    arrive_verdict_lem : (len i j : ℕ) → arrive_verdict (with s) len i j ≡ arrive_verdict s len i j
     unfolding arrive_verdict
-    arrive-verdict len i j = rw (sound_valid ok, sound_valid sound-with) refl
+    arrive_verdict_lem len i j = rw (sound_valid ok, sound_valid sound_with) refl
 
-    arrive-with : (lent : List ℕ) (i j cell : ℕ) → let a = arrive_of s lent i j cell in
-        arrive_of (with s) lent i j cell ≡ record { reply = replyWith a.reply; store = a.store }
+    arrive_with : (lent : List ℕ) (i j cell : ℕ) → let a = arrive_of s lent i j cell in
+        arrive_of (with s) lent i j cell ≡ record { reply = reply_with a.reply; store = a.store }
     unfolding arrive_of
-    arrive-with lent i j cell = go (arrive_verdict s (length lent) i j) refl
+    arrive_with lent i j cell = go (arrive_verdict s (length lent) i j) refl
       where
         go : (v : Verdict) → arrive_verdict s (length lent) i j ≡ v → let a = arrive_of s lent i j cell in
-            arrive_of (with s) lent i j cell ≡ record { reply = replyWith a.reply; store = a.store }
-        go Accepted e = rw (arrive-verdict (length lent) i j, e) refl
-        go (Refused r) e = rw (arrive-verdict (length lent) i j, e) refl
+            arrive_of (with s) lent i j cell ≡ record { reply = reply_with a.reply; store = a.store }
+        go Accepted e = rw (arrive_verdict_lem (length lent) i j, e) refl
+        go (Refused r) e = rw (arrive_verdict_lem (length lent) i j, e) refl
 
-    load-verdict : (m u : ℕ) (new : List ℕ) → load_verdict (with s) m u new ≡ load_verdict s m u new
+    load_verdict_lem : (m u : ℕ) (new : List ℕ) → load_verdict (with s) m u new ≡ load_verdict s m u new
     unfolding load_verdict
-    load-verdict m u new = rw (sound_valid ok, sound_valid sound-with) refl
+    load_verdict_lem m u new = rw (sound_valid ok, sound_valid sound_with) refl
 
-    load-with : (m u : ℕ) (new : List ℕ) → ((load_of (with s) m u new).verdict ≡ Accepted → ⊥) → load_of (with s) m u new ≡ replyWith (load_of s m u new)
+    load_with : (m u : ℕ) (new : List ℕ) → ((load_of (with s) m u new).verdict ≡ Accepted → ⊥) → load_of (with s) m u new ≡ reply_with (load_of s m u new)
     unfolding load_of
-    load-with m u new h = go (load_verdict s m u new) refl
+    load_with m u new h = go (load_verdict s m u new) refl
       where
-        go : (v : Verdict) → load_verdict s m u new ≡ v → load_of (with s) m u new ≡ replyWith (load_of s m u new)
-        go Accepted e = absurd (h (load-verdict m u new ∙ e))
-        go (Refused r) e = rw (load-verdict m u new, e) refl
+        go : (v : Verdict) → load_verdict s m u new ≡ v → load_of (with s) m u new ≡ reply_with (load_of s m u new)
+        go Accepted e = absurd (h (load_verdict_lem m u new ∙ e))
+        go (Refused r) e = rw (load_verdict_lem m u new, e) refl
 
-    step-verdict : (len : ℕ) → step_verdict (with s) len ≡ step_verdict s len
+    step_verdict_lem : (len : ℕ) → step_verdict (with s) len ≡ step_verdict s len
     unfolding step_verdict
-    step-verdict len = rw (sound_valid ok, sound_valid sound-with, has_room_lem (takeover-sound ok).0, has_room_lem (takeover-sound sound-with).0) refl
+    step_verdict_lem len = rw (sound_valid ok, sound_valid sound_with, has_room_lem (takeover_sound ok).0, has_room_lem (takeover_sound sound_with).0) refl
 
-    step-with : (lent : List ℕ) → ((step_of (with s) lent).verdict ≡ Accepted → s.slot ≡ 0 → ⊥) → step_of (with s) lent ≡ slotWith (step_of s lent)
+    step_with : (lent : List ℕ) → ((step_of (with s) lent).verdict ≡ Accepted → s.slot ≡ 0 → ⊥) → step_of (with s) lent ≡ slot_with (step_of s lent)
     unfolding step_of after_slot board_choices head_choices
-    step-with lent h = go (step_verdict s (length lent)) refl
+    step_with lent h = go (step_verdict s (length lent)) refl
       where
-        go : (v : Verdict) → step_verdict s (length lent) ≡ v → step_of (with s) lent ≡ slotWith (step_of s lent)
+        go : (v : Verdict) → step_verdict s (length lent) ≡ v → step_of (with s) lent ≡ slot_with (step_of s lent)
         go Accepted e =
-            let same = step-verdict (length lent) in
+            let same = step_verdict_lem (length lent) in
             let later = ne_eqb s.slot 0 (h (same ∙ e)) in
             let mine : takes_over s ≡ false = rw later refl in
             let its : takes_over (with s) ≡ false = rw later refl in
             rw (same, e, not_taken s mine, not_taken (with s) its) refl
-        go (Refused r) e = rw (step-verdict (length lent), e) refl
+        go (Refused r) e = rw (step_verdict_lem (length lent), e) refl
 
-    call-with : (c : Call) → (BeginsFrame (with s) (answered (with s) store c) → ⊥) → (PutsInWaiting (answered (with s) store c) → ⊥)
+    call_with : (c : Call) → (BeginsFrame (with s) (answered (with s) store c) → ⊥) → (PutsInWaiting (answered (with s) store c) → ⊥)
         → answered (with s) store c ≡ while_waiting n t rates (answered s store c)
-    call-with (step own) b p = ap (stepped own) (step-with store (λ e z. b (e, z)))
-    call-with (step (other l)) b p = ap (stepped (other l)) (step-with l (λ e z. b (e, z)))
-    call-with (arrive own i j cell) b p = ap (λ (a : Arrival). arrived own i j cell a.reply a.store) (arrive-with store i j cell)
-    call-with (arrive (other l) i j cell) b p = ap (λ (a : Arrival). arrived (other l) i j cell a.reply a.store) (arrive-with l i j cell)
-    call-with (load m u new) b p = ap (loaded m u new) (load-with m u new p)
+    call_with (step own) b p = ap (stepped own) (step_with store (λ e z. b (e, z)))
+    call_with (step (other l)) b p = ap (stepped (other l)) (step_with l (λ e z. b (e, z)))
+    call_with (arrive own i j cell) b p = ap (λ (a : Arrival). arrived own i j cell a.reply a.store) (arrive_with store i j cell)
+    call_with (arrive (other l) i j cell) b p = ap (λ (a : Arrival). arrived (other l) i j cell a.reply a.store) (arrive_with l i j cell)
+    call_with (load m u new) b p = ap (loaded m u new) (load_with m u new p)
 
-  state-with : (e : Event) → state_after (while_waiting n t rates e) ≡ with (state_after e)
-  state-with (stepped lent r) = refl
-  state-with (arrived lent i j cell r left) = refl
-  state-with (loaded m u new r) = refl
+  state_with : (e : Event) → state_after (while_waiting n t rates e) ≡ with (state_after e)
+  state_with (stepped lent r) = refl
+  state_with (arrived lent i j cell r left) = refl
+  state_with (loaded m u new r) = refl
 
-  store-with : (store : List ℕ) (e : Event) → store_after store (while_waiting n t rates e) ≡ store_after store e
-  store-with store (stepped lent r) = refl
-  store-with store (arrived own i j cell r left) = refl
-  store-with store (arrived (other l) i j cell r left) = refl
-  store-with store (loaded m u new r) = refl
+  store_with : (store : List ℕ) (e : Event) → store_after store (while_waiting n t rates e) ≡ store_after store e
+  store_with store (stepped lent r) = refl
+  store_with store (arrived own i j cell r left) = refl
+  store_with store (arrived (other l) i j cell r left) = refl
+  store_with store (loaded m u new r) = refl
 
   -- an event in the state with the plan in waiting, and the same call's without it
   record Beside (s : Switch) (store : List ℕ) (e without : Event) : Type 0 where
@@ -120,12 +120,12 @@ module _ (n t : ℕ) (rates : List ℕ) where
   beside {s} {store} ok can e h b p =
       let without = answered s store (call_of e) in
       let is = happens_answered (with s) store e h in
-      let same : e ≡ while_waiting n t rates without = is ∙ call-with ok can (call_of e) (subst (λ (x : Event). BeginsFrame (with s) x → ⊥) is b) (subst (λ (x : Event). PutsInWaiting x → ⊥) is p) in
+      let same : e ≡ while_waiting n t rates without = is ∙ call_with ok can (call_of e) (subst (λ (x : Event). BeginsFrame (with s) x → ⊥) is b) (subst (λ (x : Event). PutsInWaiting x → ⊥) is p) in
       let kept = call_keeps s store ok (call_of e) (allowed (with s) store e h) in
       record {
         same = same;
-        state = ap state_after same ∙ state-with without;
-        left = ap (store_after store) same ∙ store-with store without;
+        state = ap state_after same ∙ state_with without;
+        left = ap (store_after store) same ∙ store_with store without;
         sound = kept.sound;
         can = record { valid = sound_valid kept.sound; plan = can.plan; ports = can.ports ∙ sym kept.ports; frame = can.frame ∙ sym kept.frame };
       }

@@ -21,19 +21,19 @@ module _ (T a S l d₀ t₀ d₁ t₁ : ℕ) (share : Share T a S l d₀ t₀ d�
   pos : 1 ≤ T
   pos = omega (arith, begin.early, begin.late)
 
-  pub share-at-most : S ≤ share_up l a T + 1
-  share-at-most =
+  pub share_at_most : S ≤ share_up l a T + 1
+  share_at_most =
       let up = lt-div-mul-add {a = l * a + (T - 1)} {b = T} pos in
       let close : S * T < (share_up l a T + 2) * T = omega (arith, begin.late, end.early) in
       omega (arith, lt_of_mul-lt-mul_right T {m = S} {n = share_up l a T + 2} close)
 
-  pub share-at-least : share_down l a T ≤ S + 1
-  share-at-least =
+  pub share_at_least : share_down l a T ≤ S + 1
+  share_at_least =
       let close : share_down l a T * T < (S + 2) * T = omega (arith, div-mul-le_self (l * a) T, begin.early, end.late) in
       omega (arith, lt_of_mul-lt-mul_right T {m = share_down l a T} {n = S + 2} close)
 
   -- begun where the share was not yet passed, no service is missing
-  pub share-whole : d₀ * T ≤ t₀ * a → share_down l a T ≤ S
-  share-whole behind =
+  pub share_whole : d₀ * T ≤ t₀ * a → share_down l a T ≤ S
+  share_whole behind =
       let close : share_down l a T * T < (S + 1) * T = omega (arith, div-mul-le_self (l * a) T, behind, end.late) in
       omega (arith, lt_of_mul-lt-mul_right T {m = share_down l a T} {n = S + 1} close)

@@ -6,7 +6,7 @@ use native.Mathlib.Omega.{arith}
 use lib.ListN.{length}
 use Rattle.fabric.specs.declared.flow.Queue.{Queue}
 use Rattle.fabric.specs.declared.flow.Crosspoint.{Crosspoint}
-use Rattle.runs.proofs.BalanceLaws.{OneSlot, two_at_most, balanced-after}
+use Rattle.runs.proofs.BalanceLaws.{OneSlot, two_at_most, balanced_after}
 use Rattle.runs.proofs.CellLaws.{held}
 use Rattle.runs.proofs.ShareLaws.{Near, Share}
 use Rattle.runs.proofs.TurnLaws.{BoardTurn, HeadTurn}
@@ -38,8 +38,8 @@ module _
     {q q' : Queue} {x y z : Crosspoint} {into out : List ℕ} {board-empty head-empty : ℕ}
     (s : FlowSlot store T a depth k t t' c c' d d' b h q q' x y z into out board-empty head-empty)
   where
-    one-slot : OneSlot T a t c d x.count b h (length into) (length out) board-empty head-empty
-    one-slot =
+    one_slot : OneSlot T a t c d x.count b h (length into) (length out) board-empty head-empty
+    one_slot =
         record {
           board_near = s.board_near;
           head_near = s.head_near;
@@ -54,34 +54,34 @@ module _
           empty_there = λ some. sym s.board.count ∙ s.head.dry some;
         }
 
-    pub slot-room : x.count + length into ≤ 2
-    slot-room = two_at_most one-slot
+    pub slot_room : x.count + length into ≤ 2
+    slot_room = two_at_most one_slot
 
-    pub slot-cells : z.count + length out ≡ x.count + length into
-    slot-cells = s.head.count ∙ s.board.count
+    pub slot_cells : z.count + length out ≡ x.count + length into
+    slot_cells = s.head.count ∙ s.board.count
 
-    pub slot-crossing : held x ++ into ≡ out ++ held z
-    slot-crossing = s.board.to_point ∙ s.head.from_point
+    pub slot_crossing : held x ++ into ≡ out ++ held z
+    slot_crossing = s.board.to_point ∙ s.head.from_point
 
     after : z.count + (d + h) ≤ c + b + 1
-    after = balanced-after one-slot z.count slot-cells
+    after = balanced_after one_slot z.count slot_cells
 
-    pub slot-balanced : z.count + d' ≤ c' + 1
-    slot-balanced = go s.next
+    pub slot_balanced : z.count + d' ≤ c' + 1
+    slot_balanced = go s.next
       where
         go : Next T a t c d b h t' c' d' → z.count + d' ≤ c' + 1
         go (goes_on l et ec ed near) = omega (arith, after)
         go (ends l ec ed et zc zd) = omega (arith, after)
 
-    pub slot-empties : head-empty + x.count + d + c' ≡ z.count + d' + c + board-empty
-    slot-empties = go s.next
+    pub slot_empties : head-empty + x.count + d + c' ≡ z.count + d' + c + board-empty
+    slot_empties = go s.next
       where
         go : Next T a t c d b h t' c' d' → head-empty + x.count + d + c' ≡ z.count + d' + c + board-empty
-        go (goes_on l et ec ed near) = omega (arith, slot-cells, s.board.split, s.head.split)
-        go (ends l ec ed et zc zd) = omega (arith, slot-cells, s.board.split, s.head.split)
+        go (goes_on l et ec ed near) = omega (arith, slot_cells, s.board.split, s.head.split)
+        go (ends l ec ed et zc zd) = omega (arith, slot_cells, s.board.split, s.head.split)
 
-    pub slot-share : Share T a (length out + head-empty) 1 d t d' t'
-    slot-share = go s.next
+    pub slot_share : Share T a (length out + head-empty) 1 d t d' t'
+    slot_share = go s.next
       where
         services : (length out + head-empty) * T ≡ h * T
         services = ap (λ (z : ℕ). z * T) (sym s.head.split)
@@ -91,8 +91,8 @@ module _
         go (ends l ec ed et zc zd) =
             rw (et, zd) (omega (arith, services, ap (λ (z : ℕ). z * T) ed, ap (λ (z : ℕ). z * a) l))
 
-    pub slot-near : Near T a d' t'
-    slot-near = go s.next
+    pub slot_near : Near T a d' t'
+    slot_near = go s.next
       where
         go : Next T a t c d b h t' c' d' → Near T a d' t'
         go (goes_on l et ec ed near) = near

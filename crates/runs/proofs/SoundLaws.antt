@@ -12,7 +12,7 @@ use Rattle.plan.specs.Desk.{row_of}
 use Rattle.plan.specs.Accept.{IsPlan}
 use Rattle.plan.specs.declared.Plan.{Plan}
 use Rattle.multiplexer.specs.Window.{column_of}
-use Rattle.multiplexer.proofs.PacedLaws.{Paced, paced-early, paced-late, paced-within}
+use Rattle.multiplexer.proofs.PacedLaws.{Paced, paced_early, paced_late, paced_within}
 use Rattle.multiplexer.proofs.PortLaws.{row_length, row_rate, column_length, column_rate}
 use Rattle.side.specs.Choices.{no_multiplexer}
 use Rattle.fabric.specs.Flow.{most_depth}
@@ -58,37 +58,37 @@ module _ {s : Switch} {store : List ℕ} (ok : Sound s store) (i j : ℕ) (hi : 
   pub row_is : length (row_of (plan_rates s.running) s.running.ports i) ≡ s.running.ports
   row_is = row_length (plan_rates s.running) s.running.ports i ok.plan.square hi
 
-  pub column-is : length (column_of (plan_rates s.running) s.running.ports j) ≡ s.running.ports
-  column-is = column_length (plan_rates s.running) s.running.ports j
+  pub column_is : length (column_of (plan_rates s.running) s.running.ports j) ≡ s.running.ports
+  column_is = column_length (plan_rates s.running) s.running.ports j
 
   pub board_near : Near s.running.frame (rate_at s.running i j) (board_count s i j) s.slot
   board_near =
       let e = row_rate (plan_rates s.running) s.running.ports i j hj in
       record {
-        early = rw e at (paced-early (ok.boards i hi) j (omega (arith, row_is)));
-        late = rw e at (paced-late (ok.boards i hi) j (omega (arith, row_is)));
+        early = rw e at (paced_early (ok.boards i hi) j (omega (arith, row_is)));
+        late = rw e at (paced_late (ok.boards i hi) j (omega (arith, row_is)));
       }
 
   pub head_near : Near s.running.frame (rate_at s.running i j) (head_count s i j) s.slot
   head_near =
       let e = column_rate (plan_rates s.running) s.running.ports i j hi in
       record {
-        early = rw e at (paced-early (ok.heads j hj) i (omega (arith, column-is)));
-        late = rw e at (paced-late (ok.heads j hj) i (omega (arith, column-is)));
+        early = rw e at (paced_early (ok.heads j hj) i (omega (arith, column_is)));
+        late = rw e at (paced_late (ok.heads j hj) i (omega (arith, column_is)));
       }
 
-  pub board-within : board_count s i j ≤ rate_at s.running i j
-  board-within = rw (row_rate (plan_rates s.running) s.running.ports i j hj) at (paced-within (ok.boards i hi) j (omega (arith, row_is)))
+  pub board_within : board_count s i j ≤ rate_at s.running i j
+  board_within = rw (row_rate (plan_rates s.running) s.running.ports i j hj) at (paced_within (ok.boards i hi) j (omega (arith, row_is)))
 
-  pub head-within : head_count s i j ≤ rate_at s.running i j
-  head-within = rw (column_rate (plan_rates s.running) s.running.ports i j hi) at (paced-within (ok.heads j hj) i (omega (arith, column-is)))
+  pub head_within : head_count s i j ≤ rate_at s.running i j
+  head_within = rw (column_rate (plan_rates s.running) s.running.ports i j hi) at (paced_within (ok.heads j hj) i (omega (arith, column_is)))
 
   -- between two calls the board is at most one service ahead
-  pub ahead-between : board_count s i j ≤ head_count s i j + 1
-  ahead-between =
+  pub ahead_between : board_count s i j ≤ head_count s i j + 1
+  ahead_between =
       let t = s.running.frame in
       let close : board_count s i j * t < (head_count s i j + 2) * t = omega (arith, board_near.early, head_near.late) in
       omega (arith, lt_of_mul-lt-mul_right t {m = board_count s i j} {n = head_count s i j + 2} close)
 
-  pub two-between : (point_at s (flow_of s.running.ports i j)).count ≤ 2
-  two-between = omega (arith, ok.balanced i j hi hj, ahead-between)
+  pub two_between : (point_at s (flow_of s.running.ports i j)).count ≤ 2
+  two_between = omega (arith, ok.balanced i j hi hj, ahead_between)

@@ -28,27 +28,27 @@ module _ (n t : ℕ) (rates : List ℕ) (depth : ℕ) (store : List ℕ) (ok : C
   small : (i j : ℕ) → i < n → j < n → flow_of n i j < most_flows
   small i j hi hj = omega (arith, flow_below n i j hi hj, square_small n ok.plan.few_ports)
 
-  pub queue-is : (i j : ℕ) → i < n → j < n → queue_at fresh (flow_of n i j) ≡ empty_queue
+  pub queue_is : (i j : ℕ) → i < n → j < n → queue_at fresh (flow_of n i j) ≡ empty_queue
   unfolding fresh_with
-  queue-is i j hi hj = get_or-replicate most_flows (flow_of n i j) empty_queue no_queue (small i j hi hj)
+  queue_is i j hi hj = get_or-replicate most_flows (flow_of n i j) empty_queue no_queue (small i j hi hj)
 
-  pub point-is : (i j : ℕ) → i < n → j < n → point_at fresh (flow_of n i j) ≡ empty_point
+  pub point_is : (i j : ℕ) → i < n → j < n → point_at fresh (flow_of n i j) ≡ empty_point
   unfolding fresh_with
-  point-is i j hi hj = get_or-replicate most_flows (flow_of n i j) empty_point no_point (small i j hi hj)
+  point_is i j hi hj = get_or-replicate most_flows (flow_of n i j) empty_point no_point (small i j hi hj)
 
-  port-is : (p : ℕ) → p < n → get_or (replicate most_ports rested_port) p no_multiplexer ≡ rested_port
-  port-is p h = get_or-replicate most_ports p rested_port no_multiplexer (omega (arith, ok.plan.few_ports))
+  port_is : (p : ℕ) → p < n → get_or (replicate most_ports rested_port) p no_multiplexer ≡ rested_port
+  port_is p h = get_or-replicate most_ports p rested_port no_multiplexer (omega (arith, ok.plan.few_ports))
 
   head_zero : (i j : ℕ) → i < n → j < n → head_count fresh i j ≡ 0
   unfolding fresh_with
-  head_zero i j hi hj = rw (port-is j hj) (get_or-replicate most_ports i 0 0 (omega (arith, ok.plan.few_ports)))
+  head_zero i j hi hj = rw (port_is j hj) (get_or-replicate most_ports i 0 0 (omega (arith, ok.plan.few_ports)))
 
   rested : (m : ℕ) → m ≡ n → FrameStart (replicate most_ports 0) m
   rested m e = record { full = length-replicate {A = ℕ} most_ports 0; zeros = λ f l. get_or-replicate most_ports f 0 0 (omega (arith, ok.plan.few_ports)) }
 
-  pub sound-start : Sound fresh store
+  pub sound_start : Sound fresh store
   unfolding fresh_with
-  sound-start =
+  sound_start =
       let p = started_rates n t rates ok.plan in
       record {
         plan = rw p ok.plan;
@@ -63,10 +63,10 @@ module _ (n t : ℕ) (rates : List ℕ) (depth : ℕ) (store : List ℕ) (ok : C
         boards_size = length-replicate most_ports rested_port;
         heads_size = length-replicate most_ports rested_port;
         store_size = ok.store;
-        place = λ i j hi hj. rw (queue-is i j hi hj) ok.some_cell;
-        queued = λ i j hi hj. rw (queue-is i j hi hj) (omega arith);
-        two_places = λ i j hi hj. rw (point-is i j hi hj) refl;
-        boards = λ i hi. rw (p, port-is i hi) (paced_start (row_fits n t rates ok.plan i hi) (rested _ (row_length rates n i ok.plan.square hi)));
-        heads = λ j hj. rw (p, port-is j hj) (paced_start (column_fits n t rates ok.plan j hj) (rested _ (column_length rates n j)));
-        balanced = λ i j hi hj. omega (arith, ap (λ (x : Crosspoint). x.count) (point-is i j hi hj), head_zero i j hi hj);
+        place = λ i j hi hj. rw (queue_is i j hi hj) ok.some_cell;
+        queued = λ i j hi hj. rw (queue_is i j hi hj) (omega arith);
+        two_places = λ i j hi hj. rw (point_is i j hi hj) refl;
+        boards = λ i hi. rw (p, port_is i hi) (paced_start (row_fits n t rates ok.plan i hi) (rested _ (row_length rates n i ok.plan.square hi)));
+        heads = λ j hj. rw (p, port_is j hj) (paced_start (column_fits n t rates ok.plan j hj) (rested _ (column_length rates n j)));
+        balanced = λ i j hi hj. omega (arith, ap (λ (x : Crosspoint). x.count) (point_is i j hi hj), head_zero i j hi hj);
       }

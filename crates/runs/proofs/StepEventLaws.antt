@@ -28,9 +28,9 @@ use Rattle.runs.specs.Run.{OtherLength, answered}
 use Rattle.runs.specs.Flow.{collect, total, left, moved, left_in, moved_in}
 use Rattle.runs.proofs.LedgerLaws.{Ledger}
 use Rattle.runs.proofs.SoundLaws.{Sound, board_near, head_near}
-use Rattle.runs.proofs.SlotLaws.{slot-room, slot-cells, slot-crossing, slot-empties, slot-share, slot-near}
-use Rattle.runs.proofs.StepLaws.{flow-slot, slot-sound, has_room_lem}
-use Rattle.runs.proofs.TakeoverLaws.{OtherPlan, takeover-sound}
+use Rattle.runs.proofs.SlotLaws.{slot_room, slot_cells, slot_crossing, slot_empties, slot_share, slot_near}
+use Rattle.runs.proofs.StepLaws.{flow_slot, slot_sound, has_room_lem}
+use Rattle.runs.proofs.TakeoverLaws.{OtherPlan, takeover_sound}
 use Rattle.runs.proofs.FlowPromiseLaws.{EventLaw}
 use Rattle.runs.proofs.QuietLaws.{refused_law, refused_step}
 
@@ -50,25 +50,25 @@ module _ {u : Switch} {store : List ℕ} (ok : Sound u store) (lent : Lent) (i j
   unfolding collect
   into = ap length (append-nil (moved_in i j e))
 
-  slot-ledger : Ledger u.running.ports u.running.frame i j u (after_slot u store) (e ∷ [])
+  slot_ledger : Ledger u.running.ports u.running.frame i j u (after_slot u store) (e ∷ [])
   unfolding total after_slot
-  slot-ledger =
-      let f = flow-slot ok i j hi hj in
+  slot_ledger =
+      let f = flow_slot ok i j hi hj in
       record {
-        cells = omega (arith, out, into, slot-cells f);
-        empties = omega (arith, slot-empties f);
-        share = λ a rate. rw (out, sym (rate.0 refl)) (omega (arith, slot-share f));
-        edges = λ a rate. rw (sym (rate.0 refl)) (inr (head_near ok i j hi hj, slot-near f, omega (arith, (board_near ok i j hi hj).early)));
+        cells = omega (arith, out, into, slot_cells f);
+        empties = omega (arith, slot_empties f);
+        share = λ a rate. rw (out, sym (rate.0 refl)) (omega (arith, slot_share f));
+        edges = λ a rate. rw (sym (rate.0 refl)) (inr (head_near ok i j hi hj, slot_near f, omega (arith, (board_near ok i j hi hj).early)));
       }
 
-  slot-law : EventLaw u.running.ports u.running.frame i j u store e
+  slot_law : EventLaw u.running.ports u.running.frame i j u store e
   unfolding after_slot
-  slot-law =
-      let f = flow-slot ok i j hi hj in
+  slot_law =
+      let f = flow_slot ok i j hi hj in
       record {
-        ledger = slot-ledger;
-        room = slot-room f;
-        crossing = slot-crossing f;
+        ledger = slot_ledger;
+        room = slot_room f;
+        crossing = slot_crossing f;
         queue = append-nil _ ∙ f.board.from_queue;
       }
 
@@ -85,31 +85,31 @@ other_plans running waiting waits l =
     }
 
 module _ {s : Switch} {store : List ℕ} (ok : Sound s store) (valid : valid_of s ≡ true) where
-  accepted-own : step_verdict s (length store) ≡ Accepted
+  accepted_own : step_verdict s (length store) ≡ Accepted
   unfolding step_verdict store_fits
-  accepted-own = simp (valid, eq-eqb (length store) _ ok.store_size, has_room_lem (takeover-sound ok).0)
+  accepted_own = simp (valid, eq-eqb (length store) _ ok.store_size, has_room_lem (takeover_sound ok).0)
 
-  refused-other : (l : List ℕ) → OtherLength l store → step_verdict s (length l) ≡ Accepted → ⊥
+  refused_other : (l : List ℕ) → OtherLength l store → step_verdict s (length l) ≡ Accepted → ⊥
   unfolding step_verdict store_fits
-  refused-other l ne e =
+  refused_other l ne e =
       let n = s.running.ports in
       let first = refuse_passed (not (valid_of s)) _ _ e in
       let second = refuse_passed (not (eqb (length l) (n * n * s.depth))) _ _ first.1 in
       ne (eqb-true (length l) (n * n * s.depth) (not-false _ second.0) ∙ sym ok.store_size)
 
-  own-event : answered s store (step own) ≡ slot_event own (takeover_of s) store
+  own_event : answered s store (step own) ≡ slot_event own (takeover_of s) store
   unfolding step_of
-  own-event = rw accepted-own refl
+  own_event = rw accepted_own refl
 
-  pub step-own-keeps : Sound (state_after (answered s store (step own))) store
-  step-own-keeps = rw own-event (slot-sound (takeover-sound ok).0)
+  pub step_own_keeps : Sound (state_after (answered s store (step own))) store
+  step_own_keeps = rw own_event (slot_sound (takeover_sound ok).0)
 
-  pub step-other-keeps : (l : List ℕ) → OtherLength l store → Sound (state_after (answered s store (step (other l)))) store
+  pub step_other_keeps : (l : List ℕ) → OtherLength l store → Sound (state_after (answered s store (step (other l)))) store
   unfolding step_of
-  step-other-keeps l ne = go (step_verdict s (length l)) refl
+  step_other_keeps l ne = go (step_verdict s (length l)) refl
     where
       go : (v : Verdict) → step_verdict s (length l) ≡ v → Sound (state_after (answered s store (step (other l)))) store
-      go Accepted e = absurd (refused-other l ne e)
+      go Accepted e = absurd (refused_other l ne e)
       go (Refused r) e = rw e ok
 
   module _ (i j : ℕ) (hi : i < s.running.ports) (hj : j < s.running.ports) where
@@ -125,21 +125,21 @@ module _ {s : Switch} {store : List ℕ} (ok : Sound s store) (valid : valid_of 
       where
         go : (b : Bool) → takes_over s ≡ b → Law (slot_event own (takeover_of s) store)
         go true h =
-            let okNow : Sound ruling store = subst (λ (u : Switch). Sound u store) (taken s h) (takeover-sound ok).0 in
-            let same : OtherPlan s ruling = subst (OtherPlan s) (taken s h) (takeover-sound ok).1 in
+            let ok_now : Sound ruling store = subst (λ (u : Switch). Sound u store) (taken s h) (takeover_sound ok).0 in
+            let same : OtherPlan s ruling = subst (OtherPlan s) (taken s h) (takeover_sound ok).1 in
             rw (taken s h)
             (subst₂ (λ (n T : ℕ). EventLaw n T i j s store (slot_event own ruling store)) same.ports same.frame
             (other_plans (replaced s.running s.waiting) (cleared s.waiting) 0
-            (slot-law okNow own i j (omega (arith, same.ports)) (omega (arith, same.ports)))))
-        go false h = rw (not_taken s h) (slot-law ok own i j hi hj)
+            (slot_law ok_now own i j (omega (arith, same.ports)) (omega (arith, same.ports)))))
+        go false h = rw (not_taken s h) (slot_law ok own i j hi hj)
 
-    pub step-own-law : Law (answered s store (step own))
-    step-own-law = rw own-event ruled
+    pub step_own_law : Law (answered s store (step own))
+    step_own_law = rw own_event ruled
 
-    pub step-other-law : (l : List ℕ) → OtherLength l store → Law (answered s store (step (other l)))
+    pub step_other_law : (l : List ℕ) → OtherLength l store → Law (answered s store (step (other l)))
     unfolding step_of
-    step-other-law l ne = go (step_verdict s (length l)) refl
+    step_other_law l ne = go (step_verdict s (length l)) refl
       where
         go : (v : Verdict) → step_verdict s (length l) ≡ v → Law (answered s store (step (other l)))
-        go Accepted e = absurd (refused-other l ne e)
+        go Accepted e = absurd (refused_other l ne e)
         go (Refused r) e = rw e (refused_law ok i j hi hj _ refl refl (refused_step i j (other l) r s))

@@ -13,7 +13,7 @@ use Rattle.plan.specs.Accept.{IsPlan}
 use Rattle.plan.specs.declared.Plan.{Plan}
 use Rattle.plan.proofs.BelowLaws.{and_true}
 use Rattle.multiplexer.specs.Window.{column_of, FrameStart}
-use Rattle.multiplexer.proofs.PacedLaws.{Paced, paced_start, paced-early, paced-full}
+use Rattle.multiplexer.proofs.PacedLaws.{Paced, paced_start, paced_early, paced_full}
 use Rattle.multiplexer.proofs.PortLaws.{row_length, row_fits, column_length, column_fits}
 use Rattle.side.specs.Choices.{no_multiplexer}
 use Rattle.planpair.specs.Rates.{plan_rates}
@@ -31,9 +31,9 @@ use Rattle.runs.proofs.SoundLaws.{Sound, PlanIn}
 begins : {rs ks : List ℕ} {T : ℕ} → Paced rs T 0 ks → (m : ℕ) → m ≡ length rs → FrameStart ks m
 begins {rs} {ks} {T} p m e =
     record {
-      full = paced-full p;
+      full = paced_full p;
       zeros = λ f l.
-          let close : get_or ks f 0 * T < 1 * T = omega (arith, paced-early p f (omega arith)) in
+          let close : get_or ks f 0 * T < 1 * T = omega (arith, paced_early p f (omega arith)) in
           omega (arith, lt_of_mul-lt-mul_right T {m = get_or ks f 0} {n = 1} close);
     }
 
@@ -50,17 +50,17 @@ module _ {s : Switch} {store : List ℕ} (ok : Sound s store) (zero-slot : s.slo
   here : PlanIn s.running.ports s.running.frame s.waiting
   here = ok.waiting waits
 
-  rates-are : plan_rates ruling ≡ plan_rates s.waiting
-  rates-are = taken_rates s.running s.waiting (rw here.ports ok.plan.few_ports) ok.running_size ok.waiting_size
+  rates_are : plan_rates ruling ≡ plan_rates s.waiting
+  rates_are = taken_rates s.running s.waiting (rw here.ports ok.plan.few_ports) ok.running_size ok.waiting_size
 
   -- the plan that takes over, with its own N and T
-  own-plan : IsPlan s.waiting.ports s.waiting.frame (plan_rates ruling)
-  own-plan =
-      rw rates-are
+  own_plan : IsPlan s.waiting.ports s.waiting.frame (plan_rates ruling)
+  own_plan =
+      rw rates_are
       (subst₂ (λ (m t : ℕ). IsPlan m t (plan_rates s.waiting)) (sym here.ports) (sym here.frame) here.plan)
 
-  board-starts : (i : ℕ) → i < s.waiting.ports → FrameStart (get_or s.fabric.boards i no_multiplexer).served s.waiting.ports
-  board-starts i hi =
+  board_starts : (i : ℕ) → i < s.waiting.ports → FrameStart (get_or s.fabric.boards i no_multiplexer).served s.waiting.ports
+  board_starts i hi =
       let below : i < n = omega (arith, here.ports) in
       begins (subst (λ (t : ℕ). Paced (row_of (plan_rates s.running) n i) s.running.frame t (get_or s.fabric.boards i no_multiplexer).served) zero-slot (ok.boards i below))
       _ (here.ports ∙ sym (row_length (plan_rates s.running) n i ok.plan.square below))
@@ -71,10 +71,10 @@ module _ {s : Switch} {store : List ℕ} (ok : Sound s store) (zero-slot : s.slo
       begins (subst (λ (t : ℕ). Paced (column_of (plan_rates s.running) n j) s.running.frame t (get_or s.fabric.heads j no_multiplexer).served) zero-slot (ok.heads j below))
       _ (here.ports ∙ sym (column_length (plan_rates s.running) n j))
 
-  sound-taken : Sound next store
-  sound-taken =
+  sound_taken : Sound next store
+  sound_taken =
       record {
-        plan = own-plan;
+        plan = own_plan;
         waiting = λ (h : false ≡ true). absurd (false≢true h);
         some_depth = ok.some_depth;
         few_cells = ok.few_cells;
@@ -89,9 +89,9 @@ module _ {s : Switch} {store : List ℕ} (ok : Sound s store) (zero-slot : s.slo
         place = rw here.ports ok.place;
         queued = rw here.ports ok.queued;
         two_places = rw here.ports ok.two_places;
-        boards = λ i hi. rw zero-slot (paced_start (row_fits _ _ (plan_rates ruling) own-plan i hi)
-            (subst (FrameStart (get_or s.fabric.boards i no_multiplexer).served) (sym (row_length (plan_rates ruling) s.waiting.ports i own-plan.square hi)) (board-starts i hi)));
-        heads = λ j hj. rw zero-slot (paced_start (column_fits _ _ (plan_rates ruling) own-plan j hj)
+        boards = λ i hi. rw zero-slot (paced_start (row_fits _ _ (plan_rates ruling) own_plan i hi)
+            (subst (FrameStart (get_or s.fabric.boards i no_multiplexer).served) (sym (row_length (plan_rates ruling) s.waiting.ports i own_plan.square hi)) (board_starts i hi)));
+        heads = λ j hj. rw zero-slot (paced_start (column_fits _ _ (plan_rates ruling) own_plan j hj)
             (subst (FrameStart (get_or s.fabric.heads j no_multiplexer).served) (sym (column_length (plan_rates ruling) s.waiting.ports j)) (head_starts j hj)));
         balanced = rw here.ports ok.balanced;
       }
@@ -116,11 +116,11 @@ module _ {s : Switch} {store : List ℕ} (ok : Sound s store) where
       let p = ok.waiting w in
       record { ports = p.ports; frame = p.frame; depth = refl; slot = refl; queues = refl; points = refl; boards = refl; heads = refl }
 
-  pub takeover-sound : Sound (takeover_of s) store × OtherPlan s (takeover_of s)
-  takeover-sound = go (takes_over s) refl
+  pub takeover_sound : Sound (takeover_of s) store × OtherPlan s (takeover_of s)
+  takeover_sound = go (takes_over s) refl
     where
       go : (b : Bool) → takes_over s ≡ b → Sound (takeover_of s) store × OtherPlan s (takeover_of s)
       go true e =
           let both = and_true (eqb s.slot 0) (has_waiting s) e in
-          rw (taken s e) (sound-taken ok (eqb-true s.slot 0 both.0) both.1, other both.1)
+          rw (taken s e) (sound_taken ok (eqb-true s.slot 0 both.0) both.1, other both.1)
       go false e = rw (not_taken s e) (ok, same)

@@ -70,8 +70,8 @@ module _ (store : List ℕ) (depth k j : ℕ) (q : Queue) (x : Crosspoint) (some
   abbrev After : Move → Type 0
   After r = BoardTurn store depth k q r.queue x r.point 1 (cells_with j r.port.answer) (empties j r.port.answer)
 
-  pub board-serves : (1 ≤ q.count → x.count < 2) → After (move_of depth j (get_or store (cell_place depth k q 0) 0) q x)
-  board-serves room =
+  pub board_serves : (1 ≤ q.count → x.count < 2) → After (move_of depth j (get_or store (cell_place depth k q 0) 0) q x)
+  board_serves room =
       move_case After depth j (get_or store (cell_place depth k q 0) 0) q x
       (λ none. rw (eq-eqb j j refl) (board_no_cell store depth k q x 1 hp hx))
       (λ full. rw (eq-eqb j j refl) (
@@ -89,12 +89,12 @@ module _ (i : ℕ) (x : Crosspoint) (hx : length x.cells ≡ 2) (two : x.count �
   abbrev Sent : Send → Type 0
   Sent r = HeadTurn x r.point 1 (cells_with i r.port.answer) (empties i r.port.answer)
 
-  up-size : (b : Bool) → length (cond b (set (set x.cells 0 (get_or x.cells 1 0)) 1 0) (set x.cells 0 0)) ≡ 2
-  up-size true = length-set (set x.cells 0 (get_or x.cells 1 0)) 1 0 ∙ length-set x.cells 0 _ ∙ hx
-  up-size false = length-set x.cells 0 _ ∙ hx
+  up_size : (b : Bool) → length (cond b (set (set x.cells 0 (get_or x.cells 1 0)) 1 0) (set x.cells 0 0)) ≡ 2
+  up_size true = length-set (set x.cells 0 (get_or x.cells 1 0)) 1 0 ∙ length-set x.cells 0 _ ∙ hx
+  up_size false = length-set x.cells 0 _ ∙ hx
 
-  pub head-serves : Sent (send_of i x)
-  head-serves =
+  pub head_serves : Sent (send_of i x)
+  head_serves =
       send_case Sent i x
       (λ none. rw (eq-eqb i i refl) (head_no_cell x 1 (λ _. none) hx))
       (λ full. rw (eq-eqb i i refl) (
@@ -103,7 +103,7 @@ module _ (i : ℕ) (x : Crosspoint) (hx : length x.cells ≡ 2) (two : x.count �
         count = omega arith;
         split = refl;
         dry = λ (h : 1 ≤ 0). absurd (omega arith);
-        size = up-size (ltb 1 x.count);
+        size = up_size (ltb 1 x.count);
       }))
 
 -- a service of another port says nothing of this one

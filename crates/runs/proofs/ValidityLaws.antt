@@ -11,9 +11,9 @@ use Rattle.planpair.specs.Rates.{plan_rates}
 use Rattle.crossbar.specs.State.{queue_at, point_at}
 use Rattle.crossbar.specs.Valid.{valid_of}
 use Rattle.crossbar.specs.declared.state.Switch.{Switch}
-use Rattle.crossbar.proofs.ValidLaws.{is-valid}
+use Rattle.crossbar.proofs.ValidLaws.{is_valid}
 use Rattle.runs.proofs.ShareLaws.{Near}
-use Rattle.runs.proofs.SoundLaws.{Sound, board_near, head_near, board-within, head-within, two-between}
+use Rattle.runs.proofs.SoundLaws.{Sound, board_near, head_near, board_within, head_within, two_between}
 
 -- each number below n × n is a flow's
 by_flow : (n : ℕ) → 1 ≤ n → (P : ℕ → Type 0) → ((i j : ℕ) → i < n → j < n → P (flow_of n i j)) → (k : ℕ) → k < n * n → P k
@@ -29,7 +29,7 @@ pub sound_valid : {s : Switch} {store : List ℕ} → Sound s store → valid_of
 sound_valid {s} ok =
     let n = s.running.ports in
     let flows = by_flow n ok.plan.some_port in
-    is-valid s (
+    is_valid s (
     record {
       running = ok.plan;
       waiting = λ w. let p = ok.waiting w in subst₂ (λ (m t : ℕ). IsPlan m t (plan_rates s.waiting)) (sym p.ports) (sym p.frame) p.plan;
@@ -40,9 +40,9 @@ sound_valid {s} ok =
       in_frame = ok.in_frame;
       queue_place = flows (λ (k : ℕ). (queue_at s k).place < s.depth) ok.place;
       queue_count = flows (λ (k : ℕ). (queue_at s k).count ≤ s.depth) ok.queued;
-      crosspoint_count = flows (λ (k : ℕ). (point_at s k).count ≤ 2) (two-between ok);
-      board_count_within = board-within ok;
-      head_count_within = head-within ok;
+      crosspoint_count = flows (λ (k : ℕ). (point_at s k).count ≤ 2) (two_between ok);
+      board_count_within = board_within ok;
+      head_count_within = head_within ok;
       board_zero = λ z i j hi hj. none_yet (board_near ok i j hi hj) z;
       head_zero = λ z i j hi hj. none_yet (head_near ok i j hi hj) z;
     }

@@ -41,22 +41,22 @@ accept_fine : (n t : ℕ) (rates : List ℕ) → Fine (accept_of n t rates)
 accept_fine n t rates = let few = accept_number n t rates in omega arith
 
 module _ (s : Switch) (valid : valid_of s ≡ true) where
-  pub arrive-fine : (len i j : ℕ) → Fine (arrive_verdict s len i j)
+  pub arrive_fine : (len i j : ℕ) → Fine (arrive_verdict s len i j)
   unfolding arrive_verdict
-  arrive-fine len i j =
+  arrive_fine len i j =
       let n = s.running.ports in
       rw valid
       (refuse_fine (not (store_fits n s.depth len)) StoreLength _ (omega arith)
       (refuse_fine (not (ltb i n && ltb j n)) NoSuchPort _ (omega arith)
       (refuse_fine (leb s.depth (queue_at s (flow_of n i j)).count) QueueFull _ (omega arith) accepted_fine)))
 
-  pub load-fine : (n t : ℕ) (rates : List ℕ) → Fine (load_verdict s n t rates)
+  pub load_fine : (n t : ℕ) (rates : List ℕ) → Fine (load_verdict s n t rates)
   unfolding load_verdict
-  load-fine n t rates =
+  load_fine n t rates =
       rw valid
       (then_fine (accept_of n t rates) _ (accept_fine n t rates)
       (refuse_fine (not (eqb n s.running.ports && eqb t s.running.frame)) PlanMismatch _ (omega arith) accepted_fine))
 
-  pub step-fine : has_room (takeover_of s) ≡ true → (len : ℕ) → Fine (step_verdict s len)
+  pub step_fine : has_room (takeover_of s) ≡ true → (len : ℕ) → Fine (step_verdict s len)
   unfolding step_verdict
-  step-fine room len = rw (valid, room) (refuse_fine (not (store_fits s.running.ports s.depth len)) StoreLength _ (omega arith) accepted_fine)
+  step_fine room len = rw (valid, room) (refuse_fine (not (store_fits s.running.ports s.depth len)) StoreLength _ (omega arith) accepted_fine)

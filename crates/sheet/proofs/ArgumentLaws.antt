@@ -7,7 +7,7 @@ use mathlib.Core.Option.{none, some}
 use native.Mathlib.Omega.{arith}
 use lib.ListN.{length, get_or, drop}
 use Rattle.plantext.specs.Bytes.{is_digit, digit_of}
-use Rattle.plantext.proofs.PlaceLaws.{left-none, left-some}
+use Rattle.plantext.proofs.PlaceLaws.{left_none, left_some}
 use Rattle.sheet.specs.Argument.{largest_number, number_from, told_as, argument_of}
 use Rattle.sheet.specs.declared.argument.Argument.TheVariants.{Other}
 
@@ -22,14 +22,14 @@ argument_some [] ne = absurd (ne refl)
 argument_some (b ∷ text) ne = refl
 
 module _ (text : List ℕ) (p value : ℕ) where
-  pub number-next : p < length text → is_digit (get_or text p 0) ≡ true → number_from value (drop p text) ≡ number_from (min (value * 10 + digit_of (get_or text p 0)) largest_number) (drop (p + 1) text)
+  pub number_next : p < length text → is_digit (get_or text p 0) ≡ true → number_from value (drop p text) ≡ number_from (min (value * 10 + digit_of (get_or text p 0)) largest_number) (drop (p + 1) text)
   unfolding number_from
-  number-next h e = rw (left-some text p h, e) refl
+  number_next h e = rw (left_some text p h, e) refl
 
-  pub number-stops : p < length text → is_digit (get_or text p 0) ≡ false → number_from value (drop p text) ≡ none
+  pub number_stops : p < length text → is_digit (get_or text p 0) ≡ false → number_from value (drop p text) ≡ none
   unfolding number_from
-  number-stops h e = rw (left-some text p h, e) refl
+  number_stops h e = rw (left_some text p h, e) refl
 
-  pub number-ends : length text ≤ p → number_from value (drop p text) ≡ some value
+  pub number_ends : length text ≤ p → number_from value (drop p text) ≡ some value
   unfolding number_from
-  number-ends h = rw (left-none text p h) refl
+  number_ends h = rw (left_none text p h) refl

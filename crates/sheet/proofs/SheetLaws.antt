@@ -40,9 +40,9 @@ lent_length n e = length-take-le _ _ (rw e (lent_within n))
 
 -- what the reader answers for a part of an array of zeros decides
 module _ (n t : ℕ) (text : List ℕ) (verdict : Verdict) (list : List ℕ) (read : outcome verdict list ≡ read_text_of n t text (take (lent_count n) (replicate most_flows 0))) where
-  sheet-by : sheet_of n t text ≡ writing_of verdict (file_of n t list)
+  sheet_by : sheet_of n t text ≡ writing_of verdict (file_of n t list)
   unfolding sheet_of
-  sheet-by = go (ports_in_range n) refl
+  sheet_by = go (ports_in_range n) refl
     where
       go : (is : Bool) → ports_in_range n ≡ is → sheet_of n t text ≡ writing_of verdict (file_of n t list)
       go true e =
@@ -54,14 +54,14 @@ module _ (n t : ℕ) (text : List ℕ) (verdict : Verdict) (list : List ℕ) (re
           rw (ports_decide n t text (replicate (n * n) 0) e, refused) (refused_same PortsOutOfRange _ _)
 
   -- an accepted text is written
-  pub sheet-written : verdict ≡ Accepted → write_of n t list ≡ sheet_of n t text
-  sheet-written e =
-      let outcome-verdict : (read_text_of n t text (take (lent_count n) (replicate most_flows 0))).verdict ≡ Accepted = sym (ap (λ (o : Outcome). o.verdict) read) ∙ e in
-      let plan : accept_of n t list ≡ Accepted = ap (λ (o : Outcome). accept_of n t o.list) read ∙ (accepted_text n t text _ outcome-verdict).plan in
-      write_accepted n t list plan ∙ ap (λ (v : Verdict). writing_of v (file_of n t list)) (sym e) ∙ sym sheet-by
+  pub sheet_written : verdict ≡ Accepted → write_of n t list ≡ sheet_of n t text
+  sheet_written e =
+      let outcome_verdict : (read_text_of n t text (take (lent_count n) (replicate most_flows 0))).verdict ≡ Accepted = sym (ap (λ (o : Outcome). o.verdict) read) ∙ e in
+      let plan : accept_of n t list ≡ Accepted = ap (λ (o : Outcome). accept_of n t o.list) read ∙ (accepted_text n t text _ outcome_verdict).plan in
+      write_accepted n t list plan ∙ ap (λ (v : Verdict). writing_of v (file_of n t list)) (sym e) ∙ sym sheet_by
 
-  pub sheet-refused : (r : Refusal) → verdict ≡ Refused r → writing_of (Refused r) [] ≡ sheet_of n t text
-  sheet-refused r e = refused_same r [] (file_of n t list) ∙ ap (λ (v : Verdict). writing_of v (file_of n t list)) (sym e) ∙ sym sheet-by
+  pub sheet_refused : (r : Refusal) → verdict ≡ Refused r → writing_of (Refused r) [] ≡ sheet_of n t text
+  sheet_refused r e = refused_same r [] (file_of n t list) ∙ ap (λ (v : Verdict). writing_of v (file_of n t list)) (sym e) ∙ sym sheet_by
 
 -- the bytes of a file are within its array
 pub sheet_within : (n t : ℕ) (text : List ℕ) → (sheet_of n t text).length ≤ length (sheet_of n t text).bytes

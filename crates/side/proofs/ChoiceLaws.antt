@@ -19,7 +19,7 @@ use Rattle.multiplexer.specs.declared.Choice.{Choice}
 use Rattle.multiplexer.specs.declared.Choice.TheVariants.{Idle}
 use Rattle.multiplexer.specs.declared.Multiplexer.{Multiplexer}
 use Rattle.multiplexer.specs.declared.Served.{Served}
-use Rattle.multiplexer.proofs.PacedLaws.{chosen-eligible}
+use Rattle.multiplexer.proofs.PacedLaws.{chosen_eligible}
 use Rattle.multiplexer.proofs.PortLaws.{row_length}
 use Rattle.side.specs.Choices.{no_multiplexer, choices_of, choice_at, CanChoose, choice_of, ServedAs}
 use Rattle.side.specs.Counts.{counts_of, ports_below}
@@ -38,25 +38,25 @@ module _ (line : ℕ → List ℕ) (ports : List Multiplexer) (t slot : ℕ) whe
   abbrev choice : ℕ → Choice
   choice p = choose_of (line p) (get_or ports p no_multiplexer).served t slot
 
-  choices-length : (m : ℕ) → length (after m) ≡ most_ports
+  choices_length : (m : ℕ) → length (after m) ≡ most_ports
   unfolding choices_of
-  choices-length zero = refl
-  choices-length (suc m) = length-set (after m) m (choice m) ∙ choices-length m
+  choices_length zero = refl
+  choices_length (suc m) = length-set (after m) m (choice m) ∙ choices_length m
 
   other : (m k : ℕ) → (k ≡ m → ⊥) → choice_at (after (suc m)) k ≡ choice_at (after m) k
   unfolding choices_of
   other m k h = get_or-set_other (after m) m k (choice m) Idle h
 
-  pub choices-at : (m p : ℕ) → p < m → m ≤ most_ports → choice_at (after m) p ≡ choice p
+  pub choices_at : (m p : ℕ) → p < m → m ≤ most_ports → choice_at (after m) p ≡ choice p
   unfolding choices_of
-  choices-at m p l few = done (λ m k. choice_at (after m) k) other m p l ∙ get_or-set_same (after p) p (choice p) Idle (omega (arith, choices-length p))
+  choices_at m p l few = done (λ m k. choice_at (after m) k) other m p l ∙ get_or-set_same (after p) p (choice p) Idle (omega (arith, choices_length p))
 
   -- a port of n flows names one of them
-  pub choices-named : (n : ℕ) → n ≤ most_ports → ((p : ℕ) → p < n → length (line p) ≡ n) → CanChoose n (after n)
-  choices-named n few lines =
+  pub choices_named : (n : ℕ) → n ≤ most_ports → ((p : ℕ) → p < n → length (line p) ≡ n) → CanChoose n (after n)
+  choices_named n few lines =
       record {
         few_ports = few;
-        named = λ p q l is. omega (arith, (chosen-eligible (line p) (get_or ports p no_multiplexer).served t slot q (sym (choices-at n p l few) ∙ is)).0, lines p l);
+        named = λ p q l is. omega (arith, (chosen_eligible (line p) (get_or ports p no_multiplexer).served t slot q (sym (choices_at n p l few) ∙ is)).0, lines p l);
       }
 
 choices_ext : (line line' : ℕ → List ℕ) (ports : List Multiplexer) (t slot m : ℕ) → ((p : ℕ) → p < m → line p ≡ line' p)
@@ -73,9 +73,9 @@ module _ (line : ℕ → List ℕ) (ports : List Multiplexer) (t slot : ℕ) whe
     pub full : length s.ports ≡ most_ports
     pub later : (p : ℕ) → m ≤ p → get_or s.ports p no_multiplexer ≡ get_or ports p no_multiplexer
 
-  pub served-none : length ports ≡ most_ports → ServedBelow 0 (record { ports = ports; turns = replicate most_ports no_turn })
+  pub served_none : length ports ≡ most_ports → ServedBelow 0 (record { ports = ports; turns = replicate most_ports no_turn })
   unfolding choices_of
-  served-none full =
+  served_none full =
       record {
         so_far = record { choices = turns_idle most_ports; served = λ p l. absurd (omega arith) };
         full = full;
@@ -89,9 +89,9 @@ module _ (line : ℕ → List ℕ) (ports : List Multiplexer) (t slot : ℕ) whe
       own : r ≡ serve_of (get_or ports m no_multiplexer) (line m) t slot
       own = is ∙ (rw (rules, before.later m (omega arith)) refl)
 
-      pub served-next : ServedBelow (m + 1) (record { ports = set s.ports m r.port; turns = set s.turns m turn })
+      pub served_next : ServedBelow (m + 1) (record { ports = set s.ports m r.port; turns = set s.turns m turn })
       unfolding choices_of
-      served-next =
+      served_next =
           record {
             so_far =
                 record {
@@ -120,13 +120,13 @@ pub served_counts : (line : ℕ → List ℕ) (ports : List Multiplexer) (t slot
     → ServedAs line ports t slot n s → ports_below s.ports ports n ≡ counts_of n (eqb (slot + 1) t) (choices_of line ports t slot n) ports n
 served_counts line ports t slot n s few long a =
     counted_is n (eqb (slot + 1) t) (choices_of line ports t slot n) ports s.ports
-    (λ p l. a.served p l ∙ (rw (long p l, choices-at line ports t slot n p l few) refl))
+    (λ p l. a.served p l ∙ (rw (long p l, choices_at line ports t slot n p l few) refl))
     n (omega arith)
 
 -- boards that choose by the desk view name ports below n
 pub desk_named : (running waiting : List ℕ) (takeover : Bool) (ports : List Multiplexer) (t slot n : ℕ) → n ≤ most_ports → length running ≡ n * n → length waiting ≡ n * n
     → CanChoose n (choices_of (λ p. desk_of running waiting n p takeover) ports t slot n)
-desk_named running waiting takeover ports t slot n few er ew = choices-named (λ p. desk_of running waiting n p takeover) ports t slot n few (λ p l. long takeover p l)
+desk_named running waiting takeover ports t slot n few er ew = choices_named (λ p. desk_of running waiting n p takeover) ports t slot n few (λ p l. long takeover p l)
   where
     long : (b : Bool) (p : ℕ) → p < n → length (desk_of running waiting n p b) ≡ n
     long true p l = ap length (desk_row running waiting n p true few l er ew) ∙ row_length waiting n p ew l

@@ -23,18 +23,18 @@ module _ (n : ℕ) (ends : Bool) (choices : List Choice) (ports : List Multiplex
   abbrev counted : ℕ → Multiplexer
   counted p = port_after n ends (choice_at choices p) (get_or ports p no_multiplexer)
 
-  pub counts-length : (m : ℕ) → length (after m) ≡ length ports
+  pub counts_length : (m : ℕ) → length (after m) ≡ length ports
   unfolding counts_of
-  counts-length zero = refl
-  counts-length (suc m) = length-set (after m) m (counted m) ∙ counts-length m
+  counts_length zero = refl
+  counts_length (suc m) = length-set (after m) m (counted m) ∙ counts_length m
 
   other : (m k : ℕ) → (k ≡ m → ⊥) → get_or (after (suc m)) k no_multiplexer ≡ get_or (after m) k no_multiplexer
   unfolding counts_of
   other m k h = get_or-set_other (after m) m k (counted m) no_multiplexer h
 
-  pub counts-at : (m p : ℕ) → p < m → m ≤ length ports → get_or (after m) p no_multiplexer ≡ counted p
+  pub counts_at_lem : (m p : ℕ) → p < m → m ≤ length ports → get_or (after m) p no_multiplexer ≡ counted p
   unfolding counts_of
-  counts-at m p l few = done (λ m k. get_or (after m) k no_multiplexer) other m p l ∙ get_or-set_same (after p) p (counted p) no_multiplexer (omega (arith, counts-length p))
+  counts_at_lem m p l few = done (λ m k. get_or (after m) k no_multiplexer) other m p l ∙ get_or-set_same (after p) p (counted p) no_multiplexer (omega (arith, counts_length p))
 
   -- the counts that the ports' own slots left
   pub counted_is : (list : List Multiplexer) → ((p : ℕ) → p < n → get_or list p no_multiplexer ≡ counted p) → (m : ℕ) → m ≤ n → ports_below list ports m ≡ after m
@@ -44,10 +44,10 @@ module _ (n : ℕ) (ends : Bool) (choices : List Choice) (ports : List Multiplex
 
 -- For a loop over the ports: none yet, and one more.
 module _ (list ports : List Multiplexer) where
-  pub ports-none : ports_below list ports 0 ≡ ports
+  pub ports_none : ports_below list ports 0 ≡ ports
   unfolding ports_below
-  ports-none = refl
+  ports_none = refl
 
-  pub ports-next : (m : ℕ) → ports_below list ports (m + 1) ≡ set (ports_below list ports m) m (get_or list m no_multiplexer)
+  pub ports_next : (m : ℕ) → ports_below list ports (m + 1) ≡ set (ports_below list ports m) m (get_or list m no_multiplexer)
   unfolding ports_below
-  ports-next m = rw add-one refl
+  ports_next m = rw add-one refl

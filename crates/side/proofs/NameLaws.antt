@@ -9,7 +9,7 @@ use Rattle.multiplexer.specs.Choose.{choose_of}
 use Rattle.multiplexer.specs.declared.Choice.{Choice}
 use Rattle.multiplexer.specs.declared.Choice.TheVariants.{Idle, Flow}
 use Rattle.multiplexer.specs.declared.Multiplexer.{Multiplexer}
-use Rattle.multiplexer.proofs.PacedLaws.{chosen-eligible}
+use Rattle.multiplexer.proofs.PacedLaws.{chosen_eligible}
 use Rattle.side.specs.Choices.{no_multiplexer, choices_of, choice_at, ChoosesPort}
 use Rattle.side.proofs.ListLaws.{get_d_repeated}
 
@@ -30,7 +30,7 @@ choose_names rates counts t slot = go (choose_of rates counts t slot) refl
   where
     go : (c : Choice) → choose_of rates counts t slot ≡ c → ChoosesPort c
     go Idle e = tt
-    go (Flow f) e = (chosen-eligible rates counts t slot f e).1
+    go (Flow f) e = (chosen_eligible rates counts t slot f e).1
 
 pub choices_name : (line : ℕ → List ℕ) (ports : List Multiplexer) (t slot m p : ℕ) → ChoosesPort (choice_at (choices_of line ports t slot m) p)
 unfolding choices_of

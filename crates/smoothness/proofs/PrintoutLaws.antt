@@ -20,11 +20,11 @@ use Rattle.planpair.specs.Rates.{plan_rates}
 use Rattle.multiplexer.specs.Window.{column_of}
 use Rattle.multiplexer.proofs.PortLaws.{column_length}
 use Rattle.side.specs.Columns.{transposed}
-use Rattle.side.proofs.ColumnLaws.{desk-columns}
+use Rattle.side.proofs.ColumnLaws.{desk_columns}
 use Rattle.meter.specs.Answer.{Covers}
 use Rattle.meter.specs.Search.{cover_of}
 use Rattle.meter.specs.declared.Measured.{Measured}
-use Rattle.meter.proofs.AnswerLaws.{cover-only}
+use Rattle.meter.proofs.AnswerLaws.{cover_only}
 use Rattle.console.specs.Refused.{refusal_line_of}
 use Rattle.console.specs.TextBelow.{text_below}
 use Rattle.smoothness.specs.Head.{board_lines_of, rates_lines_of}
@@ -34,27 +34,27 @@ use Rattle.smoothness.proofs.StretchLaws.{length_at}
 
 -- The lines of one flow: one for each length that counts.
 module _ (recorded : List ℕ) (j i a T : ℕ) where
-  abbrev pub stretchLine : ℕ → List ℕ
-  stretchLine k = cond (counts (stretches_of T) k) (line_of j i a (length_at T k) T (cover_of recorded i (length_at T k))) []
+  abbrev pub stretch_line : ℕ → List ℕ
+  stretch_line k = cond (counts (stretches_of T) k) (line_of j i a (length_at T k) T (cover_of recorded i (length_at T k))) []
 
-  pub by-stretches : flow_lines_of recorded j i a T ≡ text_below stretchLine stretches
+  pub by_stretches : flow_lines_of recorded j i a T ≡ text_below stretch_line stretches
   unfolding flow_lines_of
-  by-stretches = refl
+  by_stretches = refl
 
-  pub no-stretch : (k : ℕ) → counts (stretches_of T) k ≡ false → stretchLine k ≡ []
-  no-stretch k e = rw e refl
+  pub no_stretch : (k : ℕ) → counts (stretches_of T) k ≡ false → stretch_line k ≡ []
+  no_stretch k e = rw e refl
 
-  pub measured-stretch : (k : ℕ) (r : Measured) → counts (stretches_of T) k ≡ true → Covers recorded i (length_at T k) r
-      → stretchLine k ≡ line_of j i a (length_at T k) T r
-  measured-stretch k r e is = rw (e, cover-only recorded i (length_at T k) r is) refl
+  pub measured_stretch : (k : ℕ) (r : Measured) → counts (stretches_of T) k ≡ true → Covers recorded i (length_at T k) r
+      → stretch_line k ≡ line_of j i a (length_at T k) T r
+  measured_stretch k r e is = rw (e, cover_only recorded i (length_at T k) r is) refl
 
 -- The lines of one head: those of each flow with a rate above 0.
 module _ (recorded rs : List ℕ) (j T i : ℕ) where
-  pub no-rate : get_or rs i 0 ≡ 0 → board_lines_of recorded rs j T i ≡ []
-  no-rate e = rw (le-ltb 0 (get_or rs i 0) (omega arith)) refl
+  pub no_rate : get_or rs i 0 ≡ 0 → board_lines_of recorded rs j T i ≡ []
+  no_rate e = rw (le-ltb 0 (get_or rs i 0) (omega arith)) refl
 
-  pub some-rate : (get_or rs i 0 ≡ 0 → ⊥) → board_lines_of recorded rs j T i ≡ flow_lines_of recorded j i (get_or rs i 0) T
-  some-rate ne = rw (lt-ltb 0 (get_or rs i 0) (omega (arith, ne))) refl
+  pub some_rate : (get_or rs i 0 ≡ 0 → ⊥) → board_lines_of recorded rs j T i ≡ flow_lines_of recorded j i (get_or rs i 0) T
+  some_rate ne = rw (lt-ltb 0 (get_or rs i 0) (omega (arith, ne))) refl
 
 -- The lines of a head of a plan, by its rates.
 module _ (plan : Plan) (j : ℕ) where
@@ -64,24 +64,24 @@ module _ (plan : Plan) (j : ℕ) where
   abbrev n : ℕ
   n = plan.ports
 
-  pub head-by-rates : (column : List ℕ) → column ≡ column_of rates n j → head_lines_of plan j ≡ rates_lines_of column j plan.frame
+  pub head_by_rates : (column : List ℕ) → column ≡ column_of rates n j → head_lines_of plan j ≡ rates_lines_of column j plan.frame
   unfolding head_lines_of
-  head-by-rates column e = rw (e, column_length) refl
+  head_by_rates column e = rw (e, column_length) refl
 
   -- which the code reads as a row of the transposed rates
-  pub head-column : (array turned column : List ℕ) → n ≤ most_ports → j < n → length array ≡ most_flows → turned ≡ transposed rates n array n
+  pub head_column : (array turned column : List ℕ) → n ≤ most_ports → j < n → length array ≡ most_flows → turned ≡ transposed rates n array n
       → column ≡ desk_of (take (n * n) turned) (take (n * n) turned) n j false → column ≡ column_of rates n j
-  head-column array turned column few below full is e = e ∙ rw is (desk-columns rates n array few full j below)
+  head_column array turned column few below full is e = e ∙ rw is (desk_columns rates n array few full j below)
 
 -- The printout, by what the reader answers.
 module _ (file : List ℕ) (r : Reading) (is : r ≡ read_of file) where
-  pub accepted-printout : r.verdict ≡ Accepted → printout_of file ≡ header_text ++ text_below (head_lines_of r.plan) r.plan.ports
+  pub accepted_printout : r.verdict ≡ Accepted → printout_of file ≡ header_text ++ text_below (head_lines_of r.plan) r.plan.ports
   unfolding printout_of
-  accepted-printout e = rw (← is, e) refl
+  accepted_printout e = rw (← is, e) refl
 
-  pub refused-printout : {why : Refusal} → r.verdict ≡ Refused why → printout_of file ≡ refusal_line_of r.verdict
+  pub refused_printout : {why : Refusal} → r.verdict ≡ Refused why → printout_of file ≡ refusal_line_of r.verdict
   unfolding printout_of
-  refused-printout e = rw (← is, e) refl
+  refused_printout e = rw (← is, e) refl
 
   pub plan_read : r.verdict ≡ Accepted → FilePlan r.plan
   plan_read = subst (λ (s : Reading). s.verdict ≡ Accepted → FilePlan s.plan) (sym is) (accepted_plan file)

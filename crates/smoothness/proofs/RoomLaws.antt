@@ -20,11 +20,11 @@ use Rattle.console.specs.Text.{HasRoom}
 use Rattle.console.specs.TextBelow.{text_below}
 use Rattle.console.proofs.DigitLaws.{digits_within}
 use Rattle.console.proofs.TextLaws.{refusal_short, either_short}
-use Rattle.console.proofs.TextBelowLaws.{below-short}
+use Rattle.console.proofs.TextBelowLaws.{below_short}
 use Rattle.smoothness.specs.Head.{board_lines_of}
 use Rattle.smoothness.specs.Printout.{line_of, stretches, stretches_of, counts, flow_lines_of, three_frames_of, head_lines_of, printout_of, line_room, printout_room}
 use Rattle.smoothness.proofs.StretchLaws.{length_at}
-use Rattle.smoothness.proofs.PrintoutLaws.{stretchLine, by-stretches, head-by-rates}
+use Rattle.smoothness.proofs.PrintoutLaws.{stretch_line, by_stretches, head_by_rates}
 
 line_short : (j i a l T : ℕ) (m : Measured) → length (line_of j i a l T m) ≤ line_room
 unfolding line_of
@@ -53,31 +53,31 @@ flow_room = stretches * line_room
 
 flow_short : (recorded : List ℕ) (j i a T : ℕ) → length (flow_lines_of recorded j i a T) ≤ flow_room
 flow_short recorded j i a T =
-    rw (by-stretches recorded j i a T)
-    (below-short (stretchLine recorded j i a T) line_room stretches
+    rw (by_stretches recorded j i a T)
+    (below_short (stretch_line recorded j i a T) line_room stretches
     (λ k _. maybe_short line_room (counts (stretches_of T) k) _ (line_short j i a (length_at T k) T (cover_of recorded i (length_at T k)))))
 
 abbrev head_room : ℕ
 head_room = most_ports * flow_room
 
 module _ (plan : Plan) (few : plan.ports ≤ most_ports) where
-  head-short : (j : ℕ) → length (head_lines_of plan j) ≤ head_room
-  head-short j =
+  head_short : (j : ℕ) → length (head_lines_of plan j) ≤ head_room
+  head_short j =
       let T = plan.frame in
       let rs = column_of (plan_rates plan) plan.ports j in
       let recorded = three_frames_of rs T in
-      let lines = below-short (board_lines_of recorded rs j T) flow_room (length rs) (λ i _. maybe_short flow_room (ltb 0 (get_or rs i 0)) _ (flow_short recorded j i (get_or rs i 0) T)) in
-      rw (head-by-rates plan j rs refl) (omega (arith, column_length (plan_rates plan) plan.ports j))
+      let lines = below_short (board_lines_of recorded rs j T) flow_room (length rs) (λ i _. maybe_short flow_room (ltb 0 (get_or rs i 0)) _ (flow_short recorded j i (get_or rs i 0) T)) in
+      rw (head_by_rates plan j rs refl) (omega (arith, column_length (plan_rates plan) plan.ports j))
 
-  heads-short : length (text_below (head_lines_of plan) plan.ports) ≤ most_ports * head_room
-  heads-short = omega (arith, below-short (head_lines_of plan) head_room plan.ports (λ j _. head-short j))
+  heads_short : length (text_below (head_lines_of plan) plan.ports) ≤ most_ports * head_room
+  heads_short = omega (arith, below_short (head_lines_of plan) head_room plan.ports (λ j _. head_short j))
 
 printout_short : (file : List ℕ) → length (printout_of file) ≤ printout_room
 unfolding printout_of
 printout_short file =
     let r = read_of file in
     either_short printout_room r.verdict _ _
-    (λ e. omega (arith, heads-short r.plan (accepted_plan file e).is_plan.few_ports))
+    (λ e. omega (arith, heads_short r.plan (accepted_plan file e).is_plan.few_ports))
     (omega (arith, refusal_short r.verdict))
 
 -- so a buffer of that many bytes has room for every printout

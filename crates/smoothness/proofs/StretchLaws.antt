@@ -32,13 +32,13 @@ module _ (lengths : List ℕ) (k : ℕ) where
   no_length e = rw (le-ltb 0 l (omega arith)) refl
 
   module _ (some : 0 < l) where
-    pub seen-before : (m : ℕ) → m < k → get_or lengths m 0 ≡ l → counts lengths k ≡ false
+    pub seen_before : (m : ℕ) → m < k → get_or lengths m 0 ≡ l → counts lengths k ≡ false
     unfolding counts
-    seen-before m b e = rw (lt-ltb 0 l some, all_fails other k m b (rw (eq-eqb (get_or lengths m 0) l e) refl)) refl
+    seen_before m b e = rw (lt-ltb 0 l some, all_fails other k m b (rw (eq-eqb (get_or lengths m 0) l e) refl)) refl
 
-    pub new-counts : NewTo k → counts lengths k ≡ true
+    pub new_counts : NewTo k → counts lengths k ≡ true
     unfolding counts
-    new-counts new = rw (lt-ltb 0 l some, new) refl
+    new_counts new = rw (lt-ltb 0 l some, new) refl
 
   pub counts_some : counts lengths k ≡ true → 1 ≤ l
   unfolding counts

@@ -6,11 +6,11 @@ use Rattle.plan.specs.Range.{most_flows}
 use Rattle.plan.proofs.LineLaws.{square_small}
 use Rattle.refusal.specs.declared.Verdict.TheVariants.{Accepted}
 use Rattle.crossbar.specs.Start.{start_verdict}
-use Rattle.crossbar.proofs.StartLaws.{can_start, start_accepted, start-refused}
+use Rattle.crossbar.proofs.StartLaws.{can_start, start_accepted, start_refused}
 use Rattle.crossbar.proofs.start.start.Goals as goal
 
 pub returns-in_default : goal.returns-in_default
-returns-in_default c = start-refused _ _ _ _ _ c.start_verdict-verdict.ensures c.in_default.is c.no_plan.ensures c.fresh_with.ensures
+returns-in_default c = start_refused _ _ _ _ _ c.start_verdict-verdict.ensures c.in_default.is c.no_plan.ensures c.fresh_with.ensures
 
 pub overflow_mul-n : goal.overflow_mul-n
 overflow_mul-n c =

@@ -1,7 +1,7 @@
 use Rattle.std.proofs.Common.{◌≡◌, ap, sym, arith}
 use Rattle.console.specs.TextBelow.{text_below}
 use Rattle.console.proofs.TextLaws.{room_as, written_as}
-use Rattle.console.proofs.TextBelowLaws.{below_none, below-room, below_step}
+use Rattle.console.proofs.TextBelowLaws.{below_none, below_room, below_step}
 use Rattle.deadlines.specs.Printout.{line_of, rate_lines_of}
 use Rattle.deadlines.proofs.printout.rate_lines.Invariants.{line_at}
 use Rattle.deadlines.proofs.printout.rate_lines.Goals as goal
@@ -12,7 +12,7 @@ loop-k-init c = below_none _ _ _
 pub line-at-requires : goal.line-at-requires
 unfolding rate_lines_of
 line-at-requires c =
-    let room = below-room (line_at c.args.a) c.loop-k-test.true c.requires.2 c.loop-k.auto.out c.loop-k.invariant in
+    let room = below_room (line_at c.args.a) c.loop-k-test.true c.requires.2 c.loop-k.auto.out c.loop-k.invariant in
     room_as room (ap line_of (sym c.deadline.ensures))
 
 pub loop-k-preserved : goal.loop-k-preserved

@@ -1,6 +1,6 @@
 use Rattle.std.proofs.Common.{sym}
 use Rattle.planfile.proofs.LayoutLaws.{zeros_taken}
-use Rattle.console.proofs.TextLaws.{room_as, room-first, room_next, written_as, written_on}
+use Rattle.console.proofs.TextLaws.{room_as, room_first, room_next, written_as, written_on}
 use Rattle.frame.proofs.PrintoutLaws.{by_start}
 use Rattle.frame.proofs.printout.frame_printout.Goals as goal
 
@@ -15,7 +15,7 @@ returns-in_default c =
 
 pub header-slots_at-requires : goal.header-slots_at-requires
 header-slots_at-requires c =
-    room-first _ _
+    room_first _ _
     (room_as c.requires.1 ((by_start c.args.plan _ _ (zeros_taken _ c.requires.0) c.start-started.ensures).accepted c.in-Accepted.is))
 
 pub slot_lines-requires : goal.slot_lines-requires

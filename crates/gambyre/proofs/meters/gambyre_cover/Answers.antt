@@ -1,7 +1,7 @@
 use Rattle.std.proofs.Common.{ap, ◌∙◌}
 use Rattle.records.specs.Records.{cover_record}
-use Rattle.meter.proofs.AnswerLaws.{cover-only}
+use Rattle.meter.proofs.AnswerLaws.{cover_only}
 use Rattle.gambyre.proofs.meters.gambyre_cover.Goals as goal
 
 pub returns : goal.returns
-returns c = c.cover_record.ensures ∙ ap cover_record (cover-only _ _ _ _ c.cover.ensures)
+returns c = c.cover_record.ensures ∙ ap cover_record (cover_only _ _ _ _ c.cover.ensures)

@@ -6,12 +6,12 @@ use Rattle.multiplexer.specs.Choose.{best_of, choose_of}
 use Rattle.multiplexer.specs.Candidate.{choice_of}
 use Rattle.multiplexer.specs.declared.Candidate.{Candidate}
 use Rattle.multiplexer.proofs.NumberLaws.{number_of, number_chosen}
-use Rattle.multiplexer.proofs.CandidateLaws.{kept-none, kept_next}
+use Rattle.multiplexer.proofs.CandidateLaws.{kept_none, kept_next}
 use Rattle.multiplexer.proofs.Multiplexer.best.Goals as goal
 
 pub loop-f-init : goal.loop-f-init
 unfolding best_of
-loop-f-init c = let a = c.args in (omega arith, rw c.rank.ensures (kept-none a.rates.now a.self.served a.frame))
+loop-f-init c = let a = c.args in (omega arith, rw c.rank.ensures (kept_none a.rates.now a.self.served a.frame))
 
 pub loop-f-preserved : goal.loop-f-preserved
 unfolding best_of

@@ -4,7 +4,7 @@ use native.Mathlib.Omega.{arith}
 use Rattle.regulator.specs.Sums.{larger_sum}
 use Rattle.regulator.specs.Boost.{boost_diagonal}
 use Rattle.regulator.proofs.FlowLaws.{larger_kept}
-use Rattle.regulator.proofs.PlaceLaws.{place-within, place_turn}
+use Rattle.regulator.proofs.PlaceLaws.{place_within, place_turn}
 use Rattle.regulator.proofs.boost.boost_diagonal.Goals.{After-larger}
 use Rattle.regulator.proofs.boost.boost_diagonal.Goals as goal
 
@@ -25,7 +25,7 @@ overflow_add-rates c =
     let flow = c.flow-p in
     omega (
       arith,
-      place-within _ _ at.rates at.i j.result at.invariant.1 c.loop-i-test.true j.ensures.1
+      place_within _ _ at.rates at.i j.result at.invariant.1 c.loop-i-test.true j.ensures.1
           flow.result c.larger.result flow.ensures.0 (larger_is (goal.at.overflow_add-rates c).After-larger),
     )
 

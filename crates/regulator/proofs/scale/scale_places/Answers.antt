@@ -4,7 +4,7 @@ use native.Mathlib.Omega.{arith}
 use lib.ListN.{get_or, length-set}
 use Rattle.regulator.specs.Scale.{share_of, scaled_rate, scaled_of}
 use Rattle.regulator.proofs.HoldsLaws.{holds_next, holds_same, list_holds}
-use Rattle.plan.proofs.ListLaws.{length-list}
+use Rattle.plan.proofs.ListLaws.{length_list}
 use Rattle.regulator.proofs.FlowLaws.{place_below, place_in_row, larger_kept}
 use Rattle.regulator.proofs.scale.scale_places.Goals.{After-larger}
 use Rattle.regulator.proofs.scale.scale_places.Goals as goal
@@ -41,4 +41,4 @@ returns c =
     let a = c.args in
     let x = scaled_rate a.n a.t a.demands.now in
     let e : at.p ≡ a.n * a.n = omega arith in
-    holds_same at.rates _ x (a.n * a.n) at.invariant.2 (length-list x (a.n * a.n)) (rw e at at.invariant.4) (list_holds x (a.n * a.n))
+    holds_same at.rates _ x (a.n * a.n) at.invariant.2 (length_list x (a.n * a.n)) (rw e at at.invariant.4) (list_holds x (a.n * a.n))

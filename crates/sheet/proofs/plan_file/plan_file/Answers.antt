@@ -1,6 +1,6 @@
 use Rattle.std.proofs.Common.{◌≡◌, ◌∙◌, length, ap, sym, arith, length-append}
 use lib.Seq.{take_at}
-use Rattle.sheet.proofs.SheetLaws.{lent_within, lent_length, sheet-written, sheet-refused}
+use Rattle.sheet.proofs.SheetLaws.{lent_within, lent_length, sheet_written, sheet_refused}
 use Rattle.sheet.proofs.plan_file.plan_file.Goals as goal
 use Rattle.sheet.proofs.plan_file.plan_file.Goals.{In-Accepted}
 
@@ -26,7 +26,7 @@ pub returns-in-Accepted : goal.returns-in-Accepted
 returns-in-Accepted c =
     let size = rates_size (goal.at.returns-in-Accepted c).In-Accepted in
     rw (take_at c.read_text.new.rates _ _ size) at c.write.ensures
-    ∙ sheet-written _ _ _ _ _ (rw c.flows-count.ensures at c.read_text.ensures) c.in-Accepted.is
+    ∙ sheet_written _ _ _ _ _ (rw c.flows-count.ensures at c.read_text.ensures) c.in-Accepted.is
 
 pub returns-in-Refused : goal.returns-in-Refused
-returns-in-Refused c = c.no_file.ensures ∙ sheet-refused _ _ _ _ _ (rw c.flows-count.ensures at c.read_text.ensures) _ c.in-Refused.is
+returns-in-Refused c = c.no_file.ensures ∙ sheet_refused _ _ _ _ _ (rw c.flows-count.ensures at c.read_text.ensures) _ c.in-Refused.is

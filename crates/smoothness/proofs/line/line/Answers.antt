@@ -5,7 +5,7 @@ use mathlib.Core.Path.{◌≡◌, refl, sym}
 use Rattle.meter.specs.Bound.{least_bound, most_bound}
 use Rattle.console.specs.Text.{HasRoom}
 use Rattle.console.specs.Refused.{line_end}
-use Rattle.console.proofs.TextLaws.{room_as, room-first, room_next, written_as, written_on}
+use Rattle.console.proofs.TextLaws.{room_as, room_first, room_next, written_as, written_on}
 use Rattle.smoothness.proofs.LineLaws.{flow_text, pair_text, line_parts}
 use Rattle.smoothness.proofs.line.line.Goals as goal
 use Rattle.smoothness.proofs.line.line.Goals.{Start}
@@ -18,20 +18,20 @@ room : (c : Start) (least most : ℕ) →
 room c least most el em = let a = c.args in room_as c.requires.2 (line_parts a.j a.i a.rate a.l a.frame least most a.measured el em)
 
 pub flow_fields-least_at-requires : goal.flow_fields-least_at-requires
-flow_fields-least_at-requires c = room-first _ _ (room-first _ _ (room-first _ _ (room (goal.at.flow_fields-least_at-requires c).Start _ _ refl refl)))
+flow_fields-least_at-requires c = room_first _ _ (room_first _ _ (room_first _ _ (room (goal.at.flow_fields-least_at-requires c).Start _ _ refl refl)))
 
 pub beside-most_at-requires : goal.beside-most_at-requires
 beside-most_at-requires c =
     let flow = c.flow_fields-least_at in
     let all = room (goal.at.beside-most_at-requires c).Start _ _ c.least_bound.ensures refl in
-    room_next _ _ (room-first _ _ (room-first _ _ all)) flow.ensures flow.auto.out
+    room_next _ _ (room_first _ _ (room_first _ _ all)) flow.ensures flow.auto.out
 
 pub beside-end-requires : goal.beside-end-requires
 beside-end-requires c =
     let flow = c.flow_fields-least_at in
     let least = c.beside-most_at in
     let all = room (goal.at.beside-end-requires c).Start _ _ c.least_bound.ensures c.most_bound.ensures in
-    room_next _ _ (room-first _ _ all) (written_on flow.ensures least.ensures) (search rules)
+    room_next _ _ (room_first _ _ all) (written_on flow.ensures least.ensures) (search rules)
 
 pub put-requires : goal.put-requires
 put-requires c =

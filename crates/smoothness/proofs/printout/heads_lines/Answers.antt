@@ -6,8 +6,8 @@ use Rattle.planpair.specs.Rates.{plan_rates}
 use Rattle.multiplexer.specs.Window.{column_of}
 use Rattle.multiplexer.proofs.PortLaws.{column_length}
 use Rattle.console.proofs.TextLaws.{room_as}
-use Rattle.console.proofs.TextBelowLaws.{below_none, below-room, below_step}
-use Rattle.smoothness.proofs.PrintoutLaws.{head-by-rates, head-column}
+use Rattle.console.proofs.TextBelowLaws.{below_none, below_room, below_step}
+use Rattle.smoothness.proofs.PrintoutLaws.{head_by_rates, head_column}
 use Rattle.smoothness.proofs.printout.heads_lines.Goals as goal
 use Rattle.smoothness.proofs.printout.heads_lines.Goals.{After-desk_view-column}
 
@@ -16,7 +16,7 @@ column : (c : After-desk_view-column) →
     let plan = c.args.plan in
     c.desk_view-column.result.now ≡ column_of (plan_rates plan) plan.ports c.loop-j.j
 column c =
-    head-column c.args.plan c.loop-j.j (replicate most_flows 0) _ _ c.requires.0 c.loop-j-test.true refl c.transpose.ensures c.desk_view-column.ensures
+    head_column c.args.plan c.loop-j.j (replicate most_flows 0) _ _ c.requires.0 c.loop-j-test.true refl c.transpose.ensures c.desk_view-column.ensures
 
 pub loop-j-init : goal.loop-j-init
 loop-j-init c = below_none _ _ _
@@ -26,10 +26,10 @@ head_lines-at-requires c =
     let plan = c.args.plan in
     let l = c.loop-j in
     let is = column (goal.at.head_lines-at-requires c).After-desk_view-column in
-    let room = below-room _ c.loop-j-test.true c.requires.3 l.auto.out l.invariant in
-    (c.requires.1, c.requires.2, omega (arith, ap length is, column_length (plan_rates plan) plan.ports l.j), room_as room (head-by-rates _ _ _ is))
+    let room = below_room _ c.loop-j-test.true c.requires.3 l.auto.out l.invariant in
+    (c.requires.1, c.requires.2, omega (arith, ap length is, column_length (plan_rates plan) plan.ports l.j), room_as room (head_by_rates _ _ _ is))
 
 pub loop-j-preserved : goal.loop-j-preserved
 loop-j-preserved c =
     let is = column (goal.at.loop-j-preserved c).After-desk_view-column in
-    below_step _ c.loop-j.invariant (head-by-rates _ _ _ is) c.head_lines-at.ensures
+    below_step _ c.loop-j.invariant (head_by_rates _ _ _ is) c.head_lines-at.ensures

@@ -5,7 +5,7 @@ use Rattle.refusal.specs.declared.Verdict.{Verdict}
 use Rattle.crossbar.specs.declared.state.Switch.{Switch}
 use Rattle.refusal.specs.declared.Verdict.TheVariants.{Accepted}
 use Rattle.crossbar.specs.Arrive.{arrive_verdict}
-use Rattle.crossbar.proofs.ArriveLaws.{can_arrive, arrive-accepted, arrive-refused, Placed, placed}
+use Rattle.crossbar.proofs.ArriveLaws.{can_arrive, arrive_accepted, arrive_refused, Placed, placed}
 use Rattle.crossbar.proofs.state.Switch.arrive.Goals as goal
 
 -- where the arrival is accepted
@@ -13,7 +13,7 @@ known : {s : Switch} {len i j : ℕ} {v : Verdict} → v ≡ arrive_verdict s le
 known is pass = placed _ _ _ _ (can_arrive _ _ _ _ (sym is ∙ pass))
 
 pub returns-in_default : goal.returns-in_default
-returns-in_default c = arrive-refused _ _ _ _ _ c.arrive_verdict-verdict.ensures c.in_default.is
+returns-in_default c = arrive_refused _ _ _ _ _ c.arrive_verdict-verdict.ensures c.in_default.is
 
 pub overflow_mul-k : goal.overflow_mul-k
 overflow_mul-k c = omega (arith, (known c.arrive_verdict-verdict.ensures c.in-Accepted.is).few)
@@ -52,4 +52,4 @@ pub bounds-fabric-k-2 : goal.bounds-fabric-k-2
 bounds-fabric-k-2 c = (known c.arrive_verdict-verdict.ensures c.in-Accepted.is).few
 
 pub returns : goal.returns
-returns c = arrive-accepted _ _ _ _ _ c.arrive_verdict-verdict.ensures c.in-Accepted.is c.ring_place-next.ensures.0
+returns c = arrive_accepted _ _ _ _ _ c.arrive_verdict-verdict.ensures c.in-Accepted.is c.ring_place-next.ensures.0

@@ -9,8 +9,8 @@ use Rattle.plan.proofs.TestLaws.{failed, passed}
 use Rattle.plan.proofs.LineLaws.{square_small}
 use Rattle.planpair.specs.Rates.{plan_rates}
 use Rattle.planpair.specs.Valid.{plans_valid}
-use Rattle.planpair.proofs.ValidLaws.{running-valid}
-use Rattle.planpair.proofs.OwnedLaws.{rates-cover, rates-square}
+use Rattle.planpair.proofs.ValidLaws.{running_valid}
+use Rattle.planpair.proofs.OwnedLaws.{rates_cover, rates_square}
 use Rattle.fabric.specs.Valid.{flows_valid}
 use Rattle.crossbar.specs.State.{has_waiting, depth_in_range}
 use Rattle.crossbar.specs.Valid.{valid_of}
@@ -37,7 +37,7 @@ pub flows_valid-requires : goal.flows_valid-requires
 flows_valid-requires c =
     let plans_pass : let s = c.args.self in plans_valid s.running s.waiting (has_waiting s) ≡ true = passed c.plans_valid.ensures c.if-not-plans_valid.false in
     let few_ports : c.args.self.running.ports ≤ most_ports = let s = c.args.self in
-    (running-valid s.running s.waiting (has_waiting s) plans_pass).few_ports in
+    (running_valid s.running s.waiting (has_waiting s) plans_pass).few_ports in
     few_ports
 
 pub returns-then-not-flows_valid : goal.returns-then-not-flows_valid
@@ -56,7 +56,7 @@ pub overflow_mul-rates : goal.overflow_mul-rates
 overflow_mul-rates c =
     let plans_pass : let s = c.args.self in plans_valid s.running s.waiting (has_waiting s) ≡ true = passed c.plans_valid.ensures c.if-not-plans_valid.false in
     let few_ports : c.args.self.running.ports ≤ most_ports = let s = c.args.self in
-    (running-valid s.running s.waiting (has_waiting s) plans_pass).few_ports in
+    (running_valid s.running s.waiting (has_waiting s) plans_pass).few_ports in
     omega (
       arith,
       square_small _ few_ports,
@@ -66,24 +66,24 @@ pub slice_bounds-rates-end : goal.slice_bounds-rates-end
 slice_bounds-rates-end c =
     let plans_pass : let s = c.args.self in plans_valid s.running s.waiting (has_waiting s) ≡ true = passed c.plans_valid.ensures c.if-not-plans_valid.false in
     let few_ports : c.args.self.running.ports ≤ most_ports = let s = c.args.self in
-    (running-valid s.running s.waiting (has_waiting s) plans_pass).few_ports in
-    let cover : let p = c.args.self.running in p.ports * p.ports ≤ length p.rates = rates-cover c.args.self.running _ c.well_formed.0.1.1.0 few_ports in
+    (running_valid s.running s.waiting (has_waiting s) plans_pass).few_ports in
+    let cover : let p = c.args.self.running in p.ports * p.ports ≤ length p.rates = rates_cover c.args.self.running _ c.well_formed.0.1.1.0 few_ports in
     cover
 
 pub slice_bounds-counts_valid-end : goal.slice_bounds-counts_valid-end
 slice_bounds-counts_valid-end c =
     let plans_pass : let s = c.args.self in plans_valid s.running s.waiting (has_waiting s) ≡ true = passed c.plans_valid.ensures c.if-not-plans_valid.false in
     let few_ports : c.args.self.running.ports ≤ most_ports = let s = c.args.self in
-    (running-valid s.running s.waiting (has_waiting s) plans_pass).few_ports in
-    let square : let p = c.args.self.running in length (plan_rates p) ≡ p.ports * p.ports = rates-square c.args.self.running _ c.well_formed.0.1.1.0 few_ports in
+    (running_valid s.running s.waiting (has_waiting s) plans_pass).few_ports in
+    let square : let p = c.args.self.running in length (plan_rates p) ≡ p.ports * p.ports = rates_square c.args.self.running _ c.well_formed.0.1.1.0 few_ports in
     sym square
 
 pub counts_valid-requires : goal.counts_valid-requires
 counts_valid-requires c =
     let plans_pass : let s = c.args.self in plans_valid s.running s.waiting (has_waiting s) ≡ true = passed c.plans_valid.ensures c.if-not-plans_valid.false in
     let few_ports : c.args.self.running.ports ≤ most_ports = let s = c.args.self in
-    (running-valid s.running s.waiting (has_waiting s) plans_pass).few_ports in
-    let square : let p = c.args.self.running in length (plan_rates p) ≡ p.ports * p.ports = rates-square c.args.self.running _ c.well_formed.0.1.1.0 few_ports in
+    (running_valid s.running s.waiting (has_waiting s) plans_pass).few_ports in
+    let square : let p = c.args.self.running in length (plan_rates p) ≡ p.ports * p.ports = rates_square c.args.self.running _ c.well_formed.0.1.1.0 few_ports in
     (few_ports, square)
 
 pub returns : goal.returns

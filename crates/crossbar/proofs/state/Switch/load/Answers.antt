@@ -6,11 +6,11 @@ use Rattle.refusal.specs.declared.Verdict.TheVariants.{Accepted}
 use Rattle.plan.specs.Range.{most_flows}
 use Rattle.plan.proofs.LineLaws.{square_small}
 use Rattle.crossbar.specs.Load.{load_verdict}
-use Rattle.crossbar.proofs.LoadLaws.{can_load, load-accepted, load-refused}
+use Rattle.crossbar.proofs.LoadLaws.{can_load, load_accepted, load_refused}
 use Rattle.crossbar.proofs.state.Switch.load.Goals as goal
 
 pub returns-in_default : goal.returns-in_default
-returns-in_default c = load-refused _ _ _ _ c.load_verdict-verdict.ensures c.in_default.is
+returns-in_default c = load_refused _ _ _ _ c.load_verdict-verdict.ensures c.in_default.is
 
 pub overflow_mul-n : goal.overflow_mul-n
 overflow_mul-n c =
@@ -25,4 +25,4 @@ overlay-requires c =
     omega (arith, room)
 
 pub returns : goal.returns
-returns c = load-accepted _ _ _ _ c.load_verdict-verdict.ensures c.in-Accepted.is c.overlay.ensures
+returns c = load_accepted _ _ _ _ c.load_verdict-verdict.ensures c.in-Accepted.is c.overlay.ensures

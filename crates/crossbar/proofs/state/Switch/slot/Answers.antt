@@ -13,72 +13,72 @@ use Rattle.crossbar.specs.Valid.{IsValid}
 use Rattle.crossbar.specs.Takeover.{takes_over}
 use Rattle.crossbar.proofs.TakeoverLaws.{takes_waiting}
 use Rattle.crossbar.proofs.OwnedLaws.{owned_sized}
-use Rattle.crossbar.proofs.StepLaws.{running-part, waiting-part, few-choose, boards-can, few-act, acts, moves-can, heads-can, step-takes, step_keeps}
+use Rattle.crossbar.proofs.StepLaws.{running_part, waiting_part, few_choose, boards_can, few_act, acts, moves_can, heads_can, step_takes, step_keeps}
 use Rattle.crossbar.proofs.state.Switch.slot.Goals as goal
 
 pub overflow_mul-rates : goal.overflow_mul-rates
 overflow_mul-rates c =
-    let few : c.args.n ≤ most_ports = few-choose _ _ _ _ _ c.requires in
+    let few : c.args.n ≤ most_ports = few_choose _ _ _ _ _ c.requires in
     omega (arith, square_small _ few)
 
 pub slice_bounds-rates-end : goal.slice_bounds-rates-end
 slice_bounds-rates-end c =
     let size = owned_sized c.args.self _ c.well_formed.0 in
-    let few : c.args.n ≤ most_ports = few-choose _ _ _ _ _ c.requires in
+    let few : c.args.n ≤ most_ports = few_choose _ _ _ _ _ c.requires in
     omega (arith, square_small _ few, size.running)
 
 pub slice_bounds-running-end : goal.slice_bounds-running-end
 slice_bounds-running-end c =
     let size = owned_sized c.args.self _ c.well_formed.0 in
-    let few : c.args.n ≤ most_ports = few-choose _ _ _ _ _ c.requires in
-    sym (running-part _ size _ few)
+    let few : c.args.n ≤ most_ports = few_choose _ _ _ _ _ c.requires in
+    sym (running_part _ size _ few)
 
 pub overflow_mul-waiting_rates : goal.overflow_mul-waiting_rates
 overflow_mul-waiting_rates c =
-    let few : c.args.n ≤ most_ports = few-choose _ _ _ _ _ c.requires in
+    let few : c.args.n ≤ most_ports = few_choose _ _ _ _ _ c.requires in
     omega (arith, square_small _ few)
 
 pub slice_bounds-waiting_rates-end : goal.slice_bounds-waiting_rates-end
 slice_bounds-waiting_rates-end c =
     let size = owned_sized c.args.self _ c.well_formed.0 in
-    let few : c.args.n ≤ most_ports = few-choose _ _ _ _ _ c.requires in
+    let few : c.args.n ≤ most_ports = few_choose _ _ _ _ _ c.requires in
     omega (arith, square_small _ few, size.waiting)
 
 pub slice_bounds-waiting-end : goal.slice_bounds-waiting-end
 slice_bounds-waiting-end c =
     let size = owned_sized c.args.self _ c.well_formed.0 in
-    let few : c.args.n ≤ most_ports = few-choose _ _ _ _ _ c.requires in
-    sym (waiting-part _ size _ few)
+    let few : c.args.n ≤ most_ports = few_choose _ _ _ _ _ c.requires in
+    sym (waiting_part _ size _ few)
 
 pub serve_all-boards-requires : goal.serve_all-boards-requires
 serve_all-boards-requires c =
-    let few : c.args.n ≤ most_ports = few-choose _ _ _ _ _ c.requires in
+    let few : c.args.n ≤ most_ports = few_choose _ _ _ _ _ c.requires in
     few
 
 pub room_for_all-room-requires : goal.room_for_all-room-requires
 room_for_all-room-requires c =
     let size = owned_sized c.args.self _ c.well_formed.0 in
     let by_desk = rw c.takes_over-takeover.ensures at c.serve_all-boards.ensures in
-    boards-can c.args.self c.args.store.now size c.args.n c.args.valid c.args.fits c.requires _ by_desk
+    boards_can c.args.self c.args.store.now size c.args.n c.args.valid c.args.fits c.requires _ by_desk
 
 pub columns_of-requires : goal.columns_of-requires
 columns_of-requires c =
     let size = owned_sized c.args.self _ c.well_formed.0 in
-    let few : c.args.n ≤ most_ports = few-choose _ _ _ _ _ c.requires in
-    (few, running-part _ size _ few, waiting-part _ size _ few)
+    let few : c.args.n ≤ most_ports = few_choose _ _ _ _ _ c.requires in
+    (few, running_part _ size _ few, waiting_part _ size _ few)
 
 pub overflow_mul-columns : goal.overflow_mul-columns
 overflow_mul-columns c =
     let size = owned_sized c.args.self _ c.well_formed.0 in
     let by_desk = rw c.takes_over-takeover.ensures at c.serve_all-boards.ensures in
-    let few_acting : c.acting-m.result ≤ most_ports = few-act c.args.self c.args.store.now size c.args.n c.args.valid c.args.fits c.requires _ by_desk _ c.room_for_all-room.ensures _ c.acting-m.ensures in
+    let few_acting : c.acting-m.result ≤ most_ports = few_act c.args.self c.args.store.now size c.args.n c.args.valid c.args.fits c.requires _ by_desk _ c.room_for_all-room.ensures _ c.acting-m.ensures in
     omega (arith, square_small _ few_acting)
 
 pub slice_bounds-columns-end : goal.slice_bounds-columns-end
 slice_bounds-columns-end c =
     let size = owned_sized c.args.self _ c.well_formed.0 in
     let by_desk = rw c.takes_over-takeover.ensures at c.serve_all-boards.ensures in
-    let few_acting : c.acting-m.result ≤ most_ports = few-act c.args.self c.args.store.now size c.args.n c.args.valid c.args.fits c.requires _ by_desk _ c.room_for_all-room.ensures _ c.acting-m.ensures in
+    let few_acting : c.acting-m.result ≤ most_ports = few_act c.args.self c.args.store.now size c.args.n c.args.valid c.args.fits c.requires _ by_desk _ c.room_for_all-room.ensures _ c.acting-m.ensures in
     let full : length c.columns_of.new.columns ≡ most_flows = columns_full _ _ _ _ c.columns_of.ensures in
     omega (arith, square_small _ few_acting)
 
@@ -86,7 +86,7 @@ pub slice_bounds-rows-end : goal.slice_bounds-rows-end
 slice_bounds-rows-end c =
     let size = owned_sized c.args.self _ c.well_formed.0 in
     let by_desk = rw c.takes_over-takeover.ensures at c.serve_all-boards.ensures in
-    let few_acting : c.acting-m.result ≤ most_ports = few-act c.args.self c.args.store.now size c.args.n c.args.valid c.args.fits c.requires _ by_desk _ c.room_for_all-room.ensures _ c.acting-m.ensures in
+    let few_acting : c.acting-m.result ≤ most_ports = few_act c.args.self c.args.store.now size c.args.n c.args.valid c.args.fits c.requires _ by_desk _ c.room_for_all-room.ensures _ c.acting-m.ensures in
     let full : length c.columns_of.new.columns ≡ most_flows = columns_full _ _ _ _ c.columns_of.ensures in
     sym (length-take-le _ _ (omega (arith, square_small _ few_acting)))
 
@@ -94,7 +94,7 @@ pub serve_all-heads-requires : goal.serve_all-heads-requires
 serve_all-heads-requires c =
     let size = owned_sized c.args.self _ c.well_formed.0 in
     let by_desk = rw c.takes_over-takeover.ensures at c.serve_all-boards.ensures in
-    let few_acting : c.acting-m.result ≤ most_ports = few-act c.args.self c.args.store.now size c.args.n c.args.valid c.args.fits c.requires _ by_desk _ c.room_for_all-room.ensures _ c.acting-m.ensures in
+    let few_acting : c.acting-m.result ≤ most_ports = few_act c.args.self c.args.store.now size c.args.n c.args.valid c.args.fits c.requires _ by_desk _ c.room_for_all-room.ensures _ c.acting-m.ensures in
     few_acting
 
 pub run-ran-requires : goal.run-ran-requires
@@ -106,8 +106,8 @@ run-ran-requires c =
     let acting = c.acting-m.ensures in
     let columns = rw c.takes_over-takeover.ensures at c.columns_of.ensures in
     record {
-      moves = moves-can a.self a.store.now size a.n a.valid a.fits c.requires _ by_desk _ room _ acting;
-      sends = heads-can a.self a.store.now size a.n a.valid a.fits c.requires _ by_desk _ room _ acting _ _ refl columns _ c.serve_all-heads.ensures;
+      moves = moves_can a.self a.store.now size a.n a.valid a.fits c.requires _ by_desk _ room _ acting;
+      sends = heads_can a.self a.store.now size a.n a.valid a.fits c.requires _ by_desk _ room _ acting _ _ refl columns _ c.serve_all-heads.ensures;
     }
 
 pub next_slot-requires : goal.next_slot-requires
@@ -150,7 +150,7 @@ returns-then-takeover-m c =
     let a = c.args in
     let columns = rw c.takes_over-takeover.ensures at c.columns_of.ensures in
     rw (c.replaced-next.ensures, c.cleared-next.ensures)
-    (step-takes a.self a.store.now size a.n a.valid a.fits c.requires _ by_desk _ c.room_for_all-room.ensures _ c.acting-m.ensures _ _ refl columns _ c.serve_all-heads.ensures
+    (step_takes a.self a.store.now size a.n a.valid a.fits c.requires _ by_desk _ c.room_for_all-room.ensures _ c.acting-m.ensures _ _ refl columns _ c.serve_all-heads.ensures
     _ c.run-ran.ensures _ c.next_slot.ensures _ c.verdict_by-verdict.ensures taking.0 taking.1)
 
 pub returns-else-takeover-m : goal.returns-else-takeover-m
