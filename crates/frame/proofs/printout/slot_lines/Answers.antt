@@ -9,12 +9,12 @@ pub refusal_line-requires : goal.refusal_line-requires
 refusal_line-requires c =
     room_as
     (begun_room c.loop-slot.invariant c.requires.1 c.loop-slot.auto.out)
-    ((by_step _ _ _ _ _ _ c.loop-slot-test.true c.step_done.ensures.defined).refused c.in_default.is)
+    ((by_step _ _ _ _ _ _ c.loop-slot-test.true c.step-done.ensures.defined).refused c.in_default.is)
 
 pub returns-in_default : goal.returns-in_default
 returns-in_default c =
     begun_last c.loop-slot.invariant
-    ((by_step _ _ _ _ _ _ c.loop-slot-test.true c.step_done.ensures.defined).refused c.in_default.is)
+    ((by_step _ _ _ _ _ _ c.loop-slot-test.true c.step-done.ensures.defined).refused c.in_default.is)
     c.refusal_line.ensures
 
 pub slot_line-at-requires : goal.slot_line-at-requires
@@ -23,13 +23,13 @@ slot_line-at-requires c = (
   room_first _ _
       (room_as
       (begun_room c.loop-slot.invariant c.requires.1 c.loop-slot.auto.out)
-      ((by_step _ _ _ _ _ _ c.loop-slot-test.true c.step_done.ensures.defined).accepted c.in-Accepted.is)),
+      ((by_step _ _ _ _ _ _ c.loop-slot-test.true c.step-done.ensures.defined).accepted c.in-Accepted.is)),
 )
 
 pub loop-slot-preserved : goal.loop-slot-preserved
 loop-slot-preserved c =
     begun_next c.loop-slot.invariant
-    ((by_step _ _ _ _ _ _ c.loop-slot-test.true c.step_done.ensures.defined).accepted c.in-Accepted.is)
+    ((by_step _ _ _ _ _ _ c.loop-slot-test.true c.step-done.ensures.defined).accepted c.in-Accepted.is)
     c.slot_line-at.ensures
 
 pub returns : goal.returns
