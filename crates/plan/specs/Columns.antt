@@ -15,6 +15,6 @@ pub record ColumnAddedUp (rates : List ℕ) (n j : ℕ) : Type 0 where
   -- it counts each number of the column once, whatever else the list holds
   pub each_once : line_sum rates n 1 n j ≡ sum_below (part_of_column rates n j) (length rates)
 
--- for every list N × N long and every column (proofs/ColumnLaws.antt, every-column)
+-- for every list N × N long and every column (proofs/ColumnLaws.antt, every_column)
 abbrev pub EveryColumn : Type 0
 EveryColumn = (rates : List ℕ) (n j : ℕ) → length rates ≡ n * n → j < n → ColumnAddedUp rates n j

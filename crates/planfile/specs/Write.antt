@@ -37,7 +37,7 @@ writing_of verdict file =
 unfoldable pub write_of : ℕ → ℕ → List ℕ → Writing
 write_of n t rates = writing_of (accept_of n t rates) (file_of n t rates)
 
--- Reading what was written gives the plan back (proofs/WriteLaws.antt, reads-back).
+-- Reading what was written gives the plan back (proofs/WriteLaws.antt, reads_back).
 abbrev pub ReadsBack : Type 0
 ReadsBack = (n t : ℕ) (rates : List ℕ) → accept_of n t rates ≡ Accepted → read_of (file_of n t rates) ≡ reading_of Accepted (plan_of n t rates)
 
@@ -45,7 +45,7 @@ ReadsBack = (n t : ℕ) (rates : List ℕ) → accept_of n t rates ≡ Accepted 
 abbrev pub AreBytes : List ℕ → Type 0
 AreBytes file = (p : ℕ) → byte_at file p < 256
 
--- An accepted file is what writing its plan gives (proofs/WriteLaws.antt, writes-back).
+-- An accepted file is what writing its plan gives (proofs/WriteLaws.antt, writes_back).
 abbrev pub WritesBack : Type 0
 WritesBack = (file : List ℕ) → AreBytes file → (read_of file).verdict ≡ Accepted →
     let plan = (read_of file).plan in file_of plan.ports plan.frame (take (plan.ports * plan.ports) plan.rates) ≡ file

@@ -90,10 +90,10 @@ unfoldable pub values_of : ℕ → List ℕ → Option (List ℕ)
 values_of n text = whole (records_of n text)
 
 -- The function yields these values exactly if the text is in the grammar with these values (proofs/TextLaws.antt,
--- same-rules). A plan has at least one port.
+-- same_rules). A plan has at least one port.
 abbrev pub SameRules : Type 0
 SameRules = (n : ℕ) (text values : List ℕ) → 1 ≤ n → (values_of n text ≡ some values) ↔ Text n text values
 
--- so a text has one reading (one-reading)
+-- so a text has one reading (one_reading)
 abbrev pub OneReading : Type 0
 OneReading = (n : ℕ) (text values other : List ℕ) → Text n text values → Text n text other → values ≡ other

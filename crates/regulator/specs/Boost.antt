@@ -55,6 +55,6 @@ pub record Boosted (n t : ℕ) (given : List ℕ) (out : Outcome) : Type 0 where
   pub plan : accept_of n t out.list ≡ Accepted
   pub above : (place : ℕ) → get_or given place 0 ≤ get_or out.list place 0
 
--- in every period, for every accepted plan and every output list of its length (proofs/BoostLaws.antt, boosted-plan)
+-- in every period, for every accepted plan and every output list of its length (proofs/BoostLaws.antt, boosted_plan)
 abbrev pub BoostedPlan : Type 0
 BoostedPlan = (n t p : ℕ) (given rates : List ℕ) → accept_of n t given ≡ Accepted → length rates ≡ n * n → Boosted n t given (boost_of n t p given rates)

@@ -22,6 +22,6 @@ scaled_of n t demands = list_below (scaled_rate n t demands) (n * n)
 unfoldable pub scale_of : ℕ → ℕ → List ℕ → List ℕ → Outcome
 scale_of n t demands rates = written (lists_of n t (length demands) (length rates)) (scaled_of n t demands) rates
 
--- What scale writes is an accepted plan, whatever the demands (proofs/ScaleLaws.antt, scaled-plan).
+-- What scale writes is an accepted plan, whatever the demands (proofs/ScaleLaws.antt, scaled_plan).
 abbrev pub ScaledPlan : Type 0
 ScaledPlan = (n t : ℕ) (demands rates : List ℕ) → (scale_of n t demands rates).verdict ≡ Accepted → accept_of n t (scale_of n t demands rates).list ≡ Accepted

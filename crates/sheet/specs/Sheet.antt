@@ -15,10 +15,10 @@ rates_read n t text = read_text_of n t text (replicate (n * n) 0)
 unfoldable pub sheet_of : ℕ → ℕ → List ℕ → Writing
 sheet_of n t text = let read = rates_read n t text in writing_of read.verdict (file_of n t read.list)
 
--- The bytes of a text past these don't change what is made of it (proofs/SheetLaws.antt, sheet-cut).
+-- The bytes of a text past these don't change what is made of it (proofs/SheetLaws.antt, sheet_cut).
 abbrev pub most_input : ℕ
 most_input = most_text + 1
 
--- The file of an accepted text is read as the plan of its rates (proofs/SheetLaws.antt, sheet-plan).
+-- The file of an accepted text is read as the plan of its rates (proofs/SheetLaws.antt, sheet_plan).
 abbrev pub SheetPlan : Type 0
 SheetPlan = (n t : ℕ) (text : List ℕ) → let read = rates_read n t text in read.verdict ≡ Accepted → read_of (file_of n t read.list) ≡ reading_of Accepted (plan_of n t read.list)
