@@ -1,10 +1,10 @@
 -- Text that is written into a buffer piece by piece, and room for the line of a refusal and for what may stand in its place.
-use Prim.Native.Nat.{ℕ, ◌+◌, ◌≤◌}
+use Prim.Native.Nat.{ℕ, ◌+◌, ◌-◌, ◌≤◌}
 use mathlib.Core.List.{List, [], ◌++◌, append_assoc, append-nil}
 use mathlib.Core.Path.{◌≡◌, refl, ap, sym, subst, ◌∙◌}
 use native.Mathlib.Omega.{arith}
-use lib.ListN.{length, take, drop, length-append, length-take}
-use lib.Seq.{drop-drop}
+use lib.ListN.{length, take, drop, length-append, length-drop, length-take, drop_of_length-le}
+use lib.Seq.{take_all, take-length, take-append_seam, take-append-add, drop-append_seam, drop-append-add, drop-drop, length-take-le}
 use Rattle.refusal.specs.Chain.{if_accepted}
 use Rattle.refusal.specs.Number.{verdict_number_of}
 use Rattle.refusal.specs.declared.Verdict.{Verdict}
@@ -73,6 +73,35 @@ module _ {before text rest after : List ℕ} {start at : ℕ} (b : Begun before 
   -- where there is room for the whole, there is room for the rest
   pub begun_room : HasRoom before start text → length after ≡ length before → HasRoom after at rest
   begun_room room same = omega (arith, b.written.place, length-append b.begin rest, ap length b.whole)
+
+-- a text that is copied to the part of a buffer behind its first `at` bytes
+module _ (buffer text part : List ℕ) (at r : ℕ) (room : HasRoom buffer at text) (long : r ≡ length text) where
+  abbrev front : List ℕ
+  front = take at buffer
+
+  abbrev behind : List ℕ
+  behind = drop at buffer
+
+  abbrev left : ℕ
+  left = length buffer - at
+
+  pub copied : part ≡ take (length text) text ++ drop (length text) (take left behind) → Written buffer at text (front ++ (part ++ drop left behind)) (at + r)
+  copied is =
+      let size : length front ≡ at = length-take-le at buffer (omega arith) in
+      let all : take left behind ≡ behind = take_all left behind (omega (arith, length-drop at buffer)) in
+      let none : drop left behind ≡ [] = drop_of_length-le behind {i = left} (omega (arith, length-drop at buffer)) in
+      let after : part ++ drop left behind ≡ text ++ drop (length text) behind = rw (none, append-nil, is, all, take-length) refl in
+      let place : at + r ≡ length front + length text = omega arith in
+      rw (after, place)
+      (record {
+        place = omega arith;
+        bytes = take-append-add front _ (length text) ∙ ap (λ (l : List ℕ). front ++ l) (take-append_seam text _);
+        kept =
+            drop-append-add front _ (length text)
+            ∙ drop-append_seam text _
+            ∙ drop-drop (length text) at buffer
+            ∙ ap (λ (m : ℕ). drop (m + length text) buffer) (sym size);
+      })
 
 pub refusal_short : (v : Verdict) → length (refusal_line_of v) ≤ refusal_room
 unfolding refusal_line_of

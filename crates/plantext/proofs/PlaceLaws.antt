@@ -5,10 +5,10 @@ use mathlib.Core.Path.{◌≡◌, refl, ap, sym, ◌∙◌}
 use mathlib.Core.Bool.{Bool, true, false}
 use mathlib.Core.List.{List, [], ◌∷◌, ◌++◌, append-nil}
 use mathlib.Core.Logic.{⊎_elim}
-use native.Mathlib.Nat.{pow-suc}
+use native.Mathlib.Nat.{pow-suc, pow-le-pow_right, lt_of_lt_of_le}
 use native.Mathlib.Numerals.{add-one}
 use native.Mathlib.Omega.{arith}
-use lib.Dec.{leb, eqb}
+use lib.Dec.{leb, eqb, lit<}
 use lib.ListN.{length, get_or, drop, drop_of_length-le}
 use lib.Seq.{drop-cons}
 use borrow.Author.Tests.{lt-leb, le-leb, eq-eqb, ne_eqb}
@@ -64,6 +64,10 @@ pub digits_full : (count value : ℕ) (text : List ℕ) → count ≡ 5 → digi
 unfolding digits_from
 digits_full count value text e = rw e refl
 
+-- the number of fewer than five digits
+pub value_small : (value k : ℕ) → value < 10 ^ k → k < 5 → value < 10000
+value_small value k h l = lt_of_lt_of_le h (pow-le-pow_right {n = 10} (lit< tt) {i = k} {j = 4} (omega arith))
+
 -- the number of k digits and one more
 pub value_below : (value d k : ℕ) → value < 10 ^ k → d < 10 → value * 10 + d < 10 ^ (k + 1)
 value_below value d k h l = rw (add-one k, pow-suc 10 k) (omega arith)
@@ -86,6 +90,10 @@ skip_both (m ∷ mark) more (b ∷ text) = go (eqb b m) refl (skip_both mark mor
         → skip (m ∷ (mark ++ more)) (b ∷ text) ≡ followed_by (skip (m ∷ mark) (b ∷ text)) (skip more)
     go true e later = rw e later
     go false e later = rw e refl
+
+pub before_some : (mark : List ℕ) (k : ℕ) → (k ≡ 0 → ⊥) → before mark k ≡ mark
+before_some mark zero ne = absurd (ne refl)
+before_some mark (suc k) ne = refl
 
 -- a series that stops at an item has no more
 stuck : (item : List ℕ → Parsed) (mark text : List ℕ) (k n : ℕ) → k < n → series item mark (suc k) text ≡ nothing → series item mark n text ≡ nothing

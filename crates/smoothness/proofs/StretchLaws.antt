@@ -1,12 +1,14 @@
 -- The lengths in which a flow is measured, and which of them count.
-use Prim.Native.Nat.{ℕ, ◌<◌, ◌≤◌}
+use Prim.Native.Nat.{ℕ, zero, suc, ◌+◌, ◌<◌, ◌≤◌}
 use mathlib.Core.Bool.{Bool, true, false, not}
 use mathlib.Core.List.{List}
 use mathlib.Core.Path.{◌≡◌, refl}
+use native.Mathlib.Nat.{div-le_self}
+use native.Mathlib.Numerals.{add-one}
 use native.Mathlib.Omega.{arith}
 use lib.Dec.{ltb, eqb}
 use lib.ListN.{get_or}
-use borrow.Author.Tests.{lt-ltb, le-ltb, ltb-true, eq-eqb}
+use borrow.Author.Tests.{lt-ltb, le-ltb, ltb-true, eq-eqb, ne_eqb}
 use Rattle.plan.specs.Below.{all_below}
 use Rattle.plan.proofs.BelowLaws.{and_true, all_fails}
 use Rattle.smoothness.specs.Printout.{stretches_of, counts}
@@ -14,6 +16,13 @@ use Rattle.smoothness.specs.Printout.{stretches_of, counts}
 -- the length at place k, of a frame of T slots
 abbrev pub length_at : ℕ → ℕ → ℕ
 length_at T k = get_or (stretches_of T) k 0
+
+pub length_within : (T k : ℕ) → 1 ≤ T → length_at T k ≤ T
+length_within T zero some = some
+length_within T (suc zero) some = div-le_self T 4
+length_within T (suc (suc zero)) some = div-le_self T 2
+length_within T (suc (suc (suc zero))) some = omega arith
+length_within T (suc (suc (suc (suc k)))) some = omega arith
 
 module _ (lengths : List ℕ) (k : ℕ) where
   abbrev l : ℕ
@@ -26,6 +35,9 @@ module _ (lengths : List ℕ) (k : ℕ) where
   -- no length before place m is that of place k
   abbrev pub NewTo : ℕ → Type 0
   NewTo m = all_below other m ≡ true
+
+  pub new_next : (m : ℕ) → NewTo m → (get_or lengths m 0 ≡ l → ⊥) → NewTo (m + 1)
+  new_next m new ne = rw (add-one, new, ne_eqb (get_or lengths m 0) l ne) refl
 
   pub no_length : l ≡ 0 → counts lengths k ≡ false
   unfolding counts
