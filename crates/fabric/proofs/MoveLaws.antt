@@ -18,15 +18,15 @@ use Rattle.multiplexer.specs.declared.Choice.{Choice}
 use Rattle.multiplexer.specs.declared.Choice.TheVariants.{Idle, Flow}
 use Rattle.multiplexer.specs.declared.Multiplexer.{Multiplexer}
 use Rattle.fabric.specs.Flow.{crosspoint_depth, no_queue, no_point, cell_place}
-use Rattle.fabric.specs.Answer.{port, answer_of}
+use Rattle.fabric.specs.Answer.{answer_of}
 use Rattle.side.specs.Choices.{choice_at, NamesBelow, CanChoose}
 use Rattle.fabric.specs.Moves.{Moves, move_none, move_cell, move_of, with_move, board_moves, moves_of, room_in, room_for, room_for_all, CanMove, CanMoveAll}
 use Rattle.fabric.specs.declared.flow.Queue.{Queue}
 use Rattle.fabric.specs.declared.flow.Crosspoint.{Crosspoint}
-use Rattle.fabric.specs.declared.flow.Port.{Port}
+use Rattle.fabric.specs.declared.flow.Answer.{Answer}
 use Rattle.fabric.specs.declared.flow.Answer.TheVariants as answer
 use Rattle.fabric.specs.declared.moves.Move.{Move}
-use Rattle.fabric.specs.declared.moves.AfterMoves.{AfterMoves}
+use Rattle.fabric.specs.declared.AfterServices.{AfterServices}
 use Rattle.fabric.specs.declared.Fabric.{Fabric}
 use Rattle.side.proofs.ListLaws.{get_d_repeated}
 use Rattle.side.proofs.PlaceLaws.{flow_small}
@@ -43,9 +43,9 @@ move_case P depth j cell q x none some = go (eqb q.count 0) refl
     go false e = let ne = eqb-false q.count 0 e in rw e (some (omega arith))
 
 -- a service is not answered by "idle"
-pub move_serves : (depth j cell : ℕ) (q : Queue) (x : Crosspoint) → (move_of depth j cell q x).port.answer ≡ answer.Idle → ⊥
+pub move_serves : (depth j cell : ℕ) (q : Queue) (x : Crosspoint) → (move_of depth j cell q x).answer ≡ answer.Idle → ⊥
 move_serves depth j cell q x =
-    move_case (λ r. r.port.answer ≡ answer.Idle → ⊥) depth j cell q x
+    move_case (λ r. r.answer ≡ answer.Idle → ⊥) depth j cell q x
     (λ _ (e : answer.Empty j ≡ answer.Idle). let z : ◌≡◌ {A = ℕ} 0 1 = cc in omega arith)
     (λ _ (e : answer.Moved j cell ≡ answer.Idle). let z : ◌≡◌ {A = ℕ} 0 1 = cc in omega arith)
 
@@ -154,13 +154,13 @@ module _ (n depth : ℕ) (store : List ℕ) (choices : List Choice) (queues : Li
       go Idle e = refl
       go (Flow j) e = get_or-set_other (after m).crosspoints (flow_of n m j) k _ no_point (λ x. h (j, e, sym x))
 
-  answer_other : (m p : ℕ) → (p ≡ m → ⊥) → answer_of (after (suc m)).ports p ≡ answer_of (after m).ports p
+  answer_other : (m p : ℕ) → (p ≡ m → ⊥) → answer_of (after (suc m)).answers p ≡ answer_of (after m).answers p
   unfolding moves_of board_moves
   answer_other m p h = go (choice_at choices m)
     where
-      go : (c : Choice) → answer_of (board_moves n depth store m c (after m)).ports p ≡ answer_of (after m).ports p
+      go : (c : Choice) → answer_of (board_moves n depth store m c (after m)).answers p ≡ answer_of (after m).answers p
       go Idle = refl
-      go (Flow j) = ap (λ (x : Port). x.answer) (get_or-set_other (after m).ports m p _ (port answer.Idle) h)
+      go (Flow j) = get_or-set_other (after m).answers m p _ answer.Idle h
 
   -- flow (i, j) is served by board i alone
   only : NamesBelow n choices → (p i j : ℕ) → p < n → j < n → serves p (flow_of n i j) → (p ≡ i) × (choice_at choices p ≡ Flow j)
@@ -197,7 +197,7 @@ module _ (n depth : ℕ) (store : List ℕ) (choices : List Choice) (queues : Li
   pub record MoveLengths (f : Moves) : Type 0 where
     pub queues_kept : length f.queues ≡ length queues
     pub points_kept : length f.crosspoints ≡ length points
-    pub all_ports : length f.ports ≡ most_ports
+    pub all_ports : length f.answers ≡ most_ports
 
   length_step : (m : ℕ) (c : Choice) (f : Moves) → MoveLengths f → MoveLengths (board_moves n depth store m c f)
   unfolding board_moves
@@ -206,7 +206,7 @@ module _ (n depth : ℕ) (store : List ℕ) (choices : List Choice) (queues : Li
       record {
         queues_kept = length-set f.queues _ _ ∙ h.queues_kept;
         points_kept = length-set f.crosspoints _ _ ∙ h.points_kept;
-        all_ports = length-set f.ports _ _ ∙ h.all_ports;
+        all_ports = length-set f.answers _ _ ∙ h.all_ports;
       }
 
   pub moves_length : (m : ℕ) → MoveLengths (after m)
@@ -222,15 +222,15 @@ module _ (n depth : ℕ) (store : List ℕ) (choices : List Choice) (queues : Li
       let is = moves_before named m m j (omega arith) (omega arith) (named m j l c) in
       rw (c, is.queue, is.point)
 
-  moves_answer_past : (m p : ℕ) → m ≤ p → answer_of (after m).ports p ≡ answer.Idle
+  moves_answer_past : (m p : ℕ) → m ≤ p → answer_of (after m).answers p ≡ answer.Idle
   unfolding moves_of
   moves_answer_past m p l =
-      not_yet (λ m p. answer_of (after m).ports p) answer_other m p l
-      ∙ ap (λ (x : Port). x.answer) (get_d_repeated most_ports p (port answer.Idle))
+      not_yet (λ m p. answer_of (after m).answers p) answer_other m p l
+      ∙ get_d_repeated most_ports p answer.Idle
 
-  pub moves_answer_idle : (i : ℕ) → i < n → choice_at choices i ≡ Idle → answer_of (after n).ports i ≡ answer.Idle
+  pub moves_answer_idle : (i : ℕ) → i < n → choice_at choices i ≡ Idle → answer_of (after n).answers i ≡ answer.Idle
   unfolding moves_of board_moves
-  moves_answer_idle i l c = done (λ m p. answer_of (after m).ports p) answer_other n i l ∙ rw c (moves_answer_past i i (omega arith))
+  moves_answer_idle i l c = done (λ m p. answer_of (after m).answers p) answer_other n i l ∙ rw c (moves_answer_past i i (omega arith))
 
   later_boards : NamesBelow n choices → (i j : ℕ) → i < n → choice_at choices i ≡ Flow j → (q : ℕ) → i < q → q < n → serves q (flow_of n i j) → ⊥
   later_boards named i j l c q lo hi s = omega (arith, (only named q i j hi (named i j l c) s).0)
@@ -238,7 +238,7 @@ module _ (n depth : ℕ) (store : List ℕ) (choices : List Choice) (queues : Li
   -- the flow that board i serves, and its answer
   pub record Moved (i j : ℕ) : Type 0 where
     pub flow : FlowIs (after n) (flow_of n i j) (flow_move n depth store queues points i j).queue (flow_move n depth store queues points i j).point
-    pub answer : answer_of (after n).ports i ≡ (flow_move n depth store queues points i j).port.answer
+    pub answer : answer_of (after n).answers i ≡ (flow_move n depth store queues points i j).answer
 
   pub moves_served : CanChoose n choices → length queues ≡ most_flows → length points ≡ most_flows → (i j : ℕ) → i < n → choice_at choices i ≡ Flow j → Moved i j
   moves_served h full full' i j l c =
@@ -260,9 +260,9 @@ module _ (n depth : ℕ) (store : List ℕ) (choices : List Choice) (queues : Li
                   ∙ get_or-set_same (after i).crosspoints k r.point no_point (omega (arith, size.points_kept));
             };
         answer =
-            done (λ m p. answer_of (after m).ports p) answer_other n i l
-            ∙ ap (λ (f : Moves). answer_of f.ports i) e
-            ∙ ap (λ (x : Port). x.answer) (get_or-set_same (after i).ports i r.port (port answer.Idle) (omega (arith, size.all_ports, h.few_ports)));
+            done (λ m p. answer_of (after m).answers p) answer_other n i l
+            ∙ ap (λ (f : Moves). answer_of f.answers i) e
+            ∙ get_or-set_same (after i).answers i r.answer answer.Idle (omega (arith, size.all_ports, h.few_ports));
       }
 
   -- a flow that its board doesn't serve
@@ -276,11 +276,11 @@ module _ (n depth : ℕ) (store : List ℕ) (choices : List Choice) (queues : Li
   moves_past named k h = kept n k (λ p l (j, c, e). omega (arith, flow_below n p j l (named p j l c)))
 
 -- the fabric after the moves, put together from the lists that they change and those that stay
-pub moved_whole : (a b : Fabric) (ports : List Port) (m : Moves) → a.boards ≡ b.boards → a.heads ≡ b.heads
-    → ◌≡◌ {A = Moves} (record { queues = a.queues; crosspoints = a.crosspoints; ports = ports }) m
-    → ◌≡◌ {A = AfterMoves} (record { fabric = a; ports = ports })
-    (record { fabric = record { queues = m.queues; crosspoints = m.crosspoints; boards = b.boards; heads = b.heads }; ports = m.ports })
-moved_whole a b ports m eb eh e =
-    ap {A = List Multiplexer} {B = AfterMoves} (λ x. record { fabric = record { queues = a.queues; crosspoints = a.crosspoints; boards = x; heads = a.heads }; ports = ports }) eb
-    ∙ ap {A = List Multiplexer} {B = AfterMoves} (λ x. record { fabric = record { queues = a.queues; crosspoints = a.crosspoints; boards = b.boards; heads = x }; ports = ports }) eh
-    ∙ ap {A = Moves} {B = AfterMoves} (λ x. record { fabric = record { queues = x.queues; crosspoints = x.crosspoints; boards = b.boards; heads = b.heads }; ports = x.ports }) e
+pub moved_whole : (a b : Fabric) (answers : List Answer) (m : Moves) → a.boards ≡ b.boards → a.heads ≡ b.heads
+    → ◌≡◌ {A = Moves} (record { queues = a.queues; crosspoints = a.crosspoints; answers = answers }) m
+    → ◌≡◌ {A = AfterServices} (record { fabric = a; answers = answers })
+    (record { fabric = record { queues = m.queues; crosspoints = m.crosspoints; boards = b.boards; heads = b.heads }; answers = m.answers })
+moved_whole a b answers m eb eh e =
+    ap {A = List Multiplexer} {B = AfterServices} (λ x. record { fabric = record { queues = a.queues; crosspoints = a.crosspoints; boards = x; heads = a.heads }; answers = answers }) eb
+    ∙ ap {A = List Multiplexer} {B = AfterServices} (λ x. record { fabric = record { queues = a.queues; crosspoints = a.crosspoints; boards = b.boards; heads = x }; answers = answers }) eh
+    ∙ ap {A = Moves} {B = AfterServices} (λ x. record { fabric = record { queues = x.queues; crosspoints = x.crosspoints; boards = b.boards; heads = b.heads }; answers = x.answers }) e

@@ -16,14 +16,14 @@ use Rattle.multiplexer.specs.declared.Choice.{Choice}
 use Rattle.multiplexer.specs.declared.Choice.TheVariants.{Idle, Flow}
 use Rattle.multiplexer.specs.declared.Multiplexer.{Multiplexer}
 use Rattle.fabric.specs.Flow.{no_point}
-use Rattle.fabric.specs.Answer.{port, answer_of}
+use Rattle.fabric.specs.Answer.{answer_of}
 use Rattle.side.specs.Choices.{choice_at, NamesBelow, CanChoose}
 use Rattle.fabric.specs.Sends.{Sends, send_none, send_cell, send_of, head_sends, sends_of}
 use Rattle.fabric.specs.declared.flow.Crosspoint.{Crosspoint}
-use Rattle.fabric.specs.declared.flow.Port.{Port}
+use Rattle.fabric.specs.declared.flow.Answer.{Answer}
 use Rattle.fabric.specs.declared.flow.Answer.TheVariants as answer
 use Rattle.fabric.specs.declared.sends.Send.{Send}
-use Rattle.fabric.specs.declared.sends.AfterSends.{AfterSends}
+use Rattle.fabric.specs.declared.AfterServices.{AfterServices}
 use Rattle.fabric.specs.declared.flow.Queue.{Queue}
 use Rattle.fabric.specs.declared.Fabric.{Fabric}
 use Rattle.side.proofs.ListLaws.{get_d_repeated}
@@ -40,9 +40,9 @@ send_case P i x none some = go (eqb x.count 0) refl
     go false e = let ne = eqb-false x.count 0 e in rw e (some (omega arith))
 
 -- a service is not answered by "idle"
-pub send_serves : (i : ℕ) (x : Crosspoint) → (send_of i x).port.answer ≡ answer.Idle → ⊥
+pub send_serves : (i : ℕ) (x : Crosspoint) → (send_of i x).answer ≡ answer.Idle → ⊥
 send_serves i x =
-    send_case (λ r. r.port.answer ≡ answer.Idle → ⊥) i x
+    send_case (λ r. r.answer ≡ answer.Idle → ⊥) i x
     (λ _ (e : answer.Empty i ≡ answer.Idle). let z : ◌≡◌ {A = ℕ} 0 1 = cc in omega arith)
     (λ _ (e : answer.Moved i (get_or x.cells 0 0) ≡ answer.Idle). let z : ◌≡◌ {A = ℕ} 0 1 = cc in omega arith)
 
@@ -51,7 +51,7 @@ abbrev pub flow_send : ℕ → List Crosspoint → ℕ → ℕ → Send
 flow_send n points i j = send_of i (get_or points (flow_of n i j) no_point)
 
 abbrev pub with_send : ℕ → ℕ → Sends → Send → Sends
-with_send j k f r = record { crosspoints = set f.crosspoints k r.point; ports = set f.ports j r.port }
+with_send j k f r = record { crosspoints = set f.crosspoints k r.point; answers = set f.answers j r.answer }
 
 module _ (n : ℕ) (choices : List Choice) (points : List Crosspoint) where
   -- the heads below m
@@ -80,13 +80,13 @@ module _ (n : ℕ) (choices : List Choice) (points : List Crosspoint) where
       go Idle e = refl
       go (Flow i) e = get_or-set_other (after m).crosspoints (flow_of n i m) k _ no_point (λ x. h (i, e, sym x))
 
-  answer_other : (m p : ℕ) → (p ≡ m → ⊥) → answer_of (after (suc m)).ports p ≡ answer_of (after m).ports p
+  answer_other : (m p : ℕ) → (p ≡ m → ⊥) → answer_of (after (suc m)).answers p ≡ answer_of (after m).answers p
   unfolding sends_of head_sends
   answer_other m p h = go (choice_at choices m)
     where
-      go : (c : Choice) → answer_of (head_sends n m c (after m)).ports p ≡ answer_of (after m).ports p
+      go : (c : Choice) → answer_of (head_sends n m c (after m)).answers p ≡ answer_of (after m).answers p
       go Idle = refl
-      go (Flow i) = ap (λ (x : Port). x.answer) (get_or-set_other (after m).ports m p _ (port answer.Idle) h)
+      go (Flow i) = get_or-set_other (after m).answers m p _ answer.Idle h
 
   -- flow (i, j) is served by head j alone
   only : (p i j : ℕ) → p < n → j < n → serves p (flow_of n i j) → (p ≡ j) × (choice_at choices p ≡ Flow i)
@@ -99,13 +99,13 @@ module _ (n : ℕ) (choices : List Choice) (points : List Crosspoint) where
 
   pub record SendLengths (f : Sends) : Type 0 where
     pub points_kept : length f.crosspoints ≡ length points
-    pub all_ports : length f.ports ≡ most_ports
+    pub all_ports : length f.answers ≡ most_ports
 
   length_step : (m : ℕ) (c : Choice) (f : Sends) → SendLengths f → SendLengths (head_sends n m c f)
   unfolding head_sends
   length_step m Idle f h = h
   length_step m (Flow i) f h =
-      record { points_kept = length-set f.crosspoints _ _ ∙ h.points_kept; all_ports = length-set f.ports _ _ ∙ h.all_ports }
+      record { points_kept = length-set f.crosspoints _ _ ∙ h.points_kept; all_ports = length-set f.answers _ _ ∙ h.all_ports }
 
   pub sends_length : (m : ℕ) → SendLengths (after m)
   unfolding sends_of
@@ -120,20 +120,20 @@ module _ (n : ℕ) (choices : List Choice) (points : List Crosspoint) where
       let is = kept m (flow_of n i m) (λ p h s. omega (arith, (only p i m (omega arith) l s).0)) in
       rw (c, is)
 
-  sends_answer_past : (m p : ℕ) → m ≤ p → answer_of (after m).ports p ≡ answer.Idle
+  sends_answer_past : (m p : ℕ) → m ≤ p → answer_of (after m).answers p ≡ answer.Idle
   unfolding sends_of
   sends_answer_past m p l =
-      not_yet (λ m p. answer_of (after m).ports p) answer_other m p l
-      ∙ ap (λ (x : Port). x.answer) (get_d_repeated most_ports p (port answer.Idle))
+      not_yet (λ m p. answer_of (after m).answers p) answer_other m p l
+      ∙ get_d_repeated most_ports p answer.Idle
 
-  pub sends_answer_idle : (j : ℕ) → j < n → choice_at choices j ≡ Idle → answer_of (after n).ports j ≡ answer.Idle
+  pub sends_answer_idle : (j : ℕ) → j < n → choice_at choices j ≡ Idle → answer_of (after n).answers j ≡ answer.Idle
   unfolding sends_of head_sends
-  sends_answer_idle j l c = done (λ m p. answer_of (after m).ports p) answer_other n j l ∙ rw c (sends_answer_past j j (omega arith))
+  sends_answer_idle j l c = done (λ m p. answer_of (after m).answers p) answer_other n j l ∙ rw c (sends_answer_past j j (omega arith))
 
   -- the flow that head j serves, and its answer
   pub record Sent (i j : ℕ) : Type 0 where
     pub point : get_or (after n).crosspoints (flow_of n i j) no_point ≡ (flow_send n points i j).point
-    pub answer : answer_of (after n).ports j ≡ (flow_send n points i j).port.answer
+    pub answer : answer_of (after n).answers j ≡ (flow_send n points i j).answer
 
   pub sends_served : CanChoose n choices → length points ≡ most_flows → (i j : ℕ) → j < n → choice_at choices j ≡ Flow i → Sent i j
   sends_served h full i j l c =
@@ -148,9 +148,9 @@ module _ (n : ℕ) (choices : List Choice) (points : List Crosspoint) where
             ∙ ap (λ (f : Sends). get_or f.crosspoints k no_point) e
             ∙ get_or-set_same (after j).crosspoints k r.point no_point (omega (arith, size.points_kept));
         answer =
-            done (λ m p. answer_of (after m).ports p) answer_other n j l
-            ∙ ap (λ (f : Sends). answer_of f.ports j) e
-            ∙ ap (λ (x : Port). x.answer) (get_or-set_same (after j).ports j r.port (port answer.Idle) (omega (arith, size.all_ports, h.few_ports)));
+            done (λ m p. answer_of (after m).answers p) answer_other n j l
+            ∙ ap (λ (f : Sends). answer_of f.answers j) e
+            ∙ get_or-set_same (after j).answers j r.answer answer.Idle (omega (arith, size.all_ports, h.few_ports));
       }
 
   -- a flow that its head doesn't serve
@@ -164,12 +164,12 @@ module _ (n : ℕ) (choices : List Choice) (points : List Crosspoint) where
   sends_past named k h = kept n k (λ p l (i, c, e). omega (arith, flow_below n i p (named p i l c) l))
 
 -- the fabric after the sends, put together from the lists that they change and those that stay
-pub sent_whole : (a b : Fabric) (ports : List Port) (s : Sends) → a.queues ≡ b.queues → a.boards ≡ b.boards → a.heads ≡ b.heads
-    → ◌≡◌ {A = Sends} (record { crosspoints = a.crosspoints; ports = ports }) s
-    → ◌≡◌ {A = AfterSends} (record { fabric = a; ports = ports })
-    (record { fabric = record { queues = b.queues; crosspoints = s.crosspoints; boards = b.boards; heads = b.heads }; ports = s.ports })
-sent_whole a b ports s eq eb eh e =
-    ap {A = List Queue} {B = AfterSends} (λ x. record { fabric = record { queues = x; crosspoints = a.crosspoints; boards = a.boards; heads = a.heads }; ports = ports }) eq
-    ∙ ap {A = List Multiplexer} {B = AfterSends} (λ x. record { fabric = record { queues = b.queues; crosspoints = a.crosspoints; boards = x; heads = a.heads }; ports = ports }) eb
-    ∙ ap {A = List Multiplexer} {B = AfterSends} (λ x. record { fabric = record { queues = b.queues; crosspoints = a.crosspoints; boards = b.boards; heads = x }; ports = ports }) eh
-    ∙ ap {A = Sends} {B = AfterSends} (λ x. record { fabric = record { queues = b.queues; crosspoints = x.crosspoints; boards = b.boards; heads = b.heads }; ports = x.ports }) e
+pub sent_whole : (a b : Fabric) (answers : List Answer) (s : Sends) → a.queues ≡ b.queues → a.boards ≡ b.boards → a.heads ≡ b.heads
+    → ◌≡◌ {A = Sends} (record { crosspoints = a.crosspoints; answers = answers }) s
+    → ◌≡◌ {A = AfterServices} (record { fabric = a; answers = answers })
+    (record { fabric = record { queues = b.queues; crosspoints = s.crosspoints; boards = b.boards; heads = b.heads }; answers = s.answers })
+sent_whole a b answers s eq eb eh e =
+    ap {A = List Queue} {B = AfterServices} (λ x. record { fabric = record { queues = x; crosspoints = a.crosspoints; boards = a.boards; heads = a.heads }; answers = answers }) eq
+    ∙ ap {A = List Multiplexer} {B = AfterServices} (λ x. record { fabric = record { queues = b.queues; crosspoints = a.crosspoints; boards = x; heads = a.heads }; answers = answers }) eb
+    ∙ ap {A = List Multiplexer} {B = AfterServices} (λ x. record { fabric = record { queues = b.queues; crosspoints = a.crosspoints; boards = b.boards; heads = x }; answers = answers }) eh
+    ∙ ap {A = Sends} {B = AfterServices} (λ x. record { fabric = record { queues = b.queues; crosspoints = x.crosspoints; boards = b.boards; heads = b.heads }; answers = x.answers }) e

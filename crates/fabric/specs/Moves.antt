@@ -6,14 +6,14 @@ use Rattle.plan.specs.Lines.{flow_of}
 use Rattle.multiplexer.specs.declared.Choice.{Choice}
 use Rattle.multiplexer.specs.declared.Choice.TheVariants.{Idle, Flow}
 use Rattle.fabric.specs.Flow.{most_depth, crosspoint_depth, no_queue, no_point, cell_place}
-use Rattle.fabric.specs.Answer.{port, all_idle}
+use Rattle.fabric.specs.Answer.{all_idle}
 use Rattle.side.specs.Choices.{choice_at, CanChoose}
+use Rattle.fabric.specs.declared.flow.Answer.{Answer}
 use Rattle.fabric.specs.declared.flow.Answer.TheVariants.{Empty, Moved}
 use Rattle.fabric.specs.declared.flow.Queue.{Queue}
 use Rattle.fabric.specs.declared.flow.Crosspoint.{Crosspoint}
 use Rattle.fabric.specs.declared.moves.Move.{Move}
-use Rattle.fabric.specs.declared.moves.AfterMoves.{AfterMoves}
-use Rattle.fabric.specs.declared.flow.Port.{Port}
+use Rattle.fabric.specs.declared.AfterServices.{AfterServices}
 use Rattle.fabric.specs.declared.Fabric.{Fabric}
 
 -- a queue without its oldest cell
@@ -26,11 +26,11 @@ filled cell x = record { cells = set x.cells x.count cell; count = x.count + 1 }
 
 -- a board's service of head j that finds no cell in its queue
 abbrev pub move_none : ℕ → Queue → Crosspoint → Move
-move_none j q x = record { queue = q; point = x; port = port (Empty j) }
+move_none j q x = record { queue = q; point = x; answer = Empty j }
 
 -- one that finds this cell
 abbrev pub move_cell : ℕ → ℕ → ℕ → Queue → Crosspoint → Move
-move_cell depth j cell q x = record { queue = shorter depth q; point = filled cell x; port = port (Moved j cell) }
+move_cell depth j cell q x = record { queue = shorter depth q; point = filled cell x; answer = Moved j cell }
 
 -- what a board's service of head j makes of its queue, whose oldest cell is `cell`, and of its crosspoint
 unfoldable pub move_of : ℕ → ℕ → ℕ → Queue → Crosspoint → Move
@@ -40,7 +40,7 @@ move_of depth j cell q x = cond (eqb q.count 0) (move_none j q x) (move_cell dep
 pub record Moves : Type 0 where
   pub queues : List Queue
   pub crosspoints : List Crosspoint
-  pub ports : List Port
+  pub answers : List Answer
 
 -- the move of flow k in the queues, crosspoints and answers so far
 abbrev pub move_at : ℕ → List ℕ → ℕ → ℕ → Moves → Move
@@ -50,7 +50,7 @@ move_at depth store j k f =
 
 abbrev pub with_move : ℕ → ℕ → Moves → Move → Moves
 with_move i k f r =
-    record { queues = set f.queues k r.queue; crosspoints = set f.crosspoints k r.point; ports = set f.ports i r.port }
+    record { queues = set f.queues k r.queue; crosspoints = set f.crosspoints k r.point; answers = set f.answers i r.answer }
 
 -- board i's part of the slot
 unfoldable pub board_moves : ℕ → ℕ → List ℕ → ℕ → Choice → Moves → Moves
@@ -59,17 +59,17 @@ board_moves n depth store i (Flow j) f = let k = flow_of n i j in with_move i k 
 
 -- the boards below m
 unfoldable pub moves_of : ℕ → ℕ → List ℕ → List Choice → List Queue → List Crosspoint → ℕ → Moves
-moves_of n depth store choices queues points zero = record { queues = queues; crosspoints = points; ports = all_idle }
+moves_of n depth store choices queues points zero = record { queues = queues; crosspoints = points; answers = all_idle }
 moves_of n depth store choices queues points (suc m) =
     board_moves n depth store m (choice_at choices m) (moves_of n depth store choices queues points m)
 
 -- the same on the fabric, whose counts stay: all n boards
-abbrev pub moved_of : ℕ → ℕ → List ℕ → List Choice → Fabric → AfterMoves
+abbrev pub moved_of : ℕ → ℕ → List ℕ → List Choice → Fabric → AfterServices
 moved_of n depth store choices f =
     let m = moves_of n depth store choices f.queues f.crosspoints n in
     record {
       fabric = record { queues = m.queues; crosspoints = m.crosspoints; boards = f.boards; heads = f.heads };
-      ports = m.ports;
+      answers = m.answers;
     }
 
 -- whether a service leaves its crosspoint at two cells or fewer

@@ -12,7 +12,7 @@ abbrev pub run_of : ℕ → ℕ → List ℕ → Side → Side → Fabric → Af
 run_of n depth store boards heads f =
     let m = moved_of n depth store (choices_in boards.turns) (counted_of f boards.ports heads.ports n) in
     let s = sent_of n (choices_in heads.turns) m.fabric in
-    record { fabric = s.fabric; moves = m.ports; sends = s.ports }
+    record { fabric = s.fabric; moves = m.answers; sends = s.answers }
 
 pub record CanRun (n depth len : ℕ) (boards heads : Side) (f : Fabric) : Type 0 where
   pub moves : CanMoveAll n depth len (choices_in boards.turns) f.queues f.crosspoints

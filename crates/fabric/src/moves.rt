@@ -4,8 +4,8 @@ ghost use Rattle.fabric.specs.Flow.{crosspoint_depth};
 ghost use Rattle.side.specs.Choices.{choices_in, CanChoose};
 ghost use Rattle.fabric.specs.Moves.{move_of, moved_of, room_in, room_for_all, CanMove, CanMoveAll};
 
-use crate::Fabric;
-use crate::flow::{Answer, CROSSPOINT_DEPTH, Crosspoint, Port, Queue};
+use crate::{AfterServices, Fabric};
+use crate::flow::{Answer, CROSSPOINT_DEPTH, Crosspoint, Queue};
 use crate::places::{oldest_place, ring_place};
 use plan::range::{MOST_FLOWS, MOST_PORTS};
 use side::choices::Turn;
@@ -16,14 +16,7 @@ use side::places::flow_place;
 pub struct Move {
     pub queue: Queue,
     pub point: Crosspoint,
-    pub port: Port,
-}
-
-// The fabric after the boards' services, and their answers.
-#[derive(Drop)]
-pub struct AfterMoves {
-    pub fabric: Fabric,
-    pub ports: [Port; MOST_PORTS],
+    pub answer: Answer,
 }
 
 // Whether a service leaves the crosspoint at two cells or fewer.
@@ -85,9 +78,7 @@ fn move_cell(queue: Queue, point: Crosspoint, cell: u32, j: usize, depth: usize)
         return Move {
             queue: queue,
             point: point,
-            port: Port {
-                answer: Answer::Empty(j),
-            },
+            answer: Answer::Empty(j),
         };
     }
     let next = ring_place(queue.place as usize + 1, depth);
@@ -102,9 +93,7 @@ fn move_cell(queue: Queue, point: Crosspoint, cell: u32, j: usize, depth: usize)
             cells: filled,
             count: point.count + 1,
         },
-        port: Port {
-            answer: Answer::Moved(j, cell),
-        },
+        answer: Answer::Moved(j, cell),
     }
 }
 
@@ -116,13 +105,11 @@ impl Fabric {
         turns: [Turn; MOST_PORTS],
         n: usize,
         depth: usize,
-    ) -> AfterMoves
+    ) -> AfterServices
         requires { CanMoveAll n depth (length store.now) (choices_in turns) self.queues self.crosspoints }
         ensures { result ≡ moved_of n depth store.now (choices_in turns) self }
     {
-        let mut ports = [Port {
-            answer: Answer::Idle,
-        }; MOST_PORTS];
+        let mut answers = [Answer::Idle; MOST_PORTS];
         for i in 0..n {
             let turn = turns[i];
             if !turn.serves {
@@ -136,14 +123,14 @@ impl Fabric {
             let moved = move_cell(queue, point, cell, j, depth);
             let queue_after = moved.queue;
             let point_after = moved.point;
-            let port = moved.port;
+            let answer = moved.answer;
             self.queues[k] = queue_after;
             self.crosspoints[k] = point_after;
-            ports[i] = port;
+            answers[i] = answer;
         }
-        AfterMoves {
+        AfterServices {
             fabric: self,
-            ports: ports,
+            answers,
         }
     }
 }

@@ -3,8 +3,8 @@ ghost use Rattle.std.specs.Prelude.{◌≡◌};
 ghost use Rattle.side.specs.Choices.{choices_in, CanChoose};
 ghost use Rattle.fabric.specs.Sends.{moved_up, send_of, sent_of};
 
-use crate::Fabric;
-use crate::flow::{Answer, Crosspoint, Port};
+use crate::{AfterServices, Fabric};
+use crate::flow::{Answer, Crosspoint};
 use plan::range::MOST_PORTS;
 use side::choices::Turn;
 use side::places::flow_place;
@@ -13,14 +13,7 @@ use side::places::flow_place;
 #[derive(Clone, Copy)]
 pub struct Send {
     pub point: Crosspoint,
-    pub port: Port,
-}
-
-// The fabric after the heads' services, and their answers.
-#[derive(Drop)]
-pub struct AfterSends {
-    pub fabric: Fabric,
-    pub ports: [Port; MOST_PORTS],
+    pub answer: Answer,
 }
 
 // The cells after the oldest one left.
@@ -44,9 +37,7 @@ fn send_cell(point: Crosspoint, i: usize) -> Send
     if point.count == 0 {
         return Send {
             point: point,
-            port: Port {
-                answer: Answer::Empty(i),
-            },
+            answer: Answer::Empty(i),
         };
     }
     let cells = point.cells;
@@ -57,21 +48,17 @@ fn send_cell(point: Crosspoint, i: usize) -> Send
             cells: left,
             count: point.count - 1,
         },
-        port: Port {
-            answer: Answer::Moved(i, cell),
-        },
+        answer: Answer::Moved(i, cell),
     }
 }
 
 impl Fabric {
     // The services of the heads below n.
-    pub fn sent(mut self, turns: [Turn; MOST_PORTS], n: usize) -> AfterSends
+    pub fn sent(mut self, turns: [Turn; MOST_PORTS], n: usize) -> AfterServices
         requires { CanChoose n (choices_in turns) }
         ensures { result ≡ sent_of n (choices_in turns) self }
     {
-        let mut ports = [Port {
-            answer: Answer::Idle,
-        }; MOST_PORTS];
+        let mut answers = [Answer::Idle; MOST_PORTS];
         for j in 0..n {
             let turn = turns[j];
             if !turn.serves {
@@ -82,13 +69,13 @@ impl Fabric {
             let point = self.crosspoints[k];
             let sent = send_cell(point, i);
             let point_after = sent.point;
-            let port = sent.port;
+            let answer = sent.answer;
             self.crosspoints[k] = point_after;
-            ports[j] = port;
+            answers[j] = answer;
         }
-        AfterSends {
+        AfterServices {
             fabric: self,
-            ports: ports,
+            answers,
         }
     }
 }

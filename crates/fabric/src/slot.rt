@@ -3,7 +3,7 @@ ghost use Rattle.std.specs.Prelude.{◌≡◌, length};
 ghost use Rattle.fabric.specs.Slot.{run_of, CanRun};
 
 use crate::Fabric;
-use crate::flow::Port;
+use crate::flow::Answer;
 use plan::range::MOST_PORTS;
 use side::choices::Side;
 
@@ -11,8 +11,8 @@ use side::choices::Side;
 #[derive(Drop)]
 pub struct AfterSlot {
     pub fabric: Fabric,
-    pub moves: [Port; MOST_PORTS],
-    pub sends: [Port; MOST_PORTS],
+    pub moves: [Answer; MOST_PORTS],
+    pub sends: [Answer; MOST_PORTS],
 }
 
 impl Fabric {
@@ -26,10 +26,10 @@ impl Fabric {
         let counted = self.counted(boards, heads, n);
         let after_moves = counted.moved(store, board_turns, n, depth);
         let moved = after_moves.fabric;
-        let moves = after_moves.ports;
+        let moves = after_moves.answers;
         let after_sends = moved.sent(head_turns, n);
         let sent = after_sends.fabric;
-        let sends = after_sends.ports;
+        let sends = after_sends.answers;
         AfterSlot {
             fabric: sent,
             moves: moves,
