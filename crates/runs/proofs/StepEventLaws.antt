@@ -36,7 +36,7 @@ use Rattle.runs.proofs.QuietLaws.{refused_law, refused_step}
 
 -- an accepted step of a state that no plan takes over any more
 abbrev slot_event : Lent → Switch → List ℕ → Event
-slot_event lent u store = stepped lent (record { verdict = Accepted; state = after_slot u store; moves = (slot_moves u store).ports; sends = (slot_sends u store).ports })
+slot_event lent u store = stepped lent (record { verdict = Accepted; state = after_slot u store; moves = (slot_moves u store).answers; sends = (slot_sends u store).answers })
 
 module _ {u : Switch} {store : List ℕ} (ok : Sound u store) (lent : Lent) (i j : ℕ) (hi : i < u.running.ports) (hj : j < u.running.ports) where
   abbrev e : Event
