@@ -1,12 +1,10 @@
 // The board's half of a slot: each chosen flow moves a cell from its queue to its crosspoint.
-ghost use Rattle.std.specs.Prelude.{◌≡◌, ◌<◌, length, set};
-ghost use Rattle.fabric.specs.Flow.{crosspoint_depth};
+ghost use Rattle.std.specs.Prelude.{◌≡◌, length};
 ghost use Rattle.side.specs.Choices.{choices_in, CanChoose};
-ghost use Rattle.fabric.specs.Moves.{move_of, moved_of, room_in, room_for_all, CanMove, CanMoveAll};
+ghost use Rattle.fabric.specs.Moves.{move_of, moved_of, room_for_all, CanMove, CanMoveAll};
 
 use crate::{AfterServices, Fabric};
-use crate::flow::{Answer, CROSSPOINT_DEPTH, Crosspoint, Queue};
-use crate::places::{oldest_place, ring_place};
+use crate::flow::{Answer, Crosspoint, Queue};
 use plan::range::{MOST_FLOWS, MOST_PORTS};
 use side::choices::Turn;
 use side::places::flow_place;
@@ -17,16 +15,6 @@ pub struct Move {
     pub queue: Queue,
     pub point: Crosspoint,
     pub answer: Answer,
-}
-
-// Whether a service leaves the crosspoint at two cells or fewer.
-fn has_room(queue: Queue, point: Crosspoint) -> bool
-    ensures { result ≡ room_in queue point }
-{
-    if queue.count == 0 {
-        return true;
-    }
-    point.count < CROSSPOINT_DEPTH
 }
 
 // Number 13: whether no board's service puts a third cell in a crosspoint.
@@ -45,28 +33,11 @@ pub fn room_for_all(
             continue;
         }
         let k = flow_place(n, i, turn.other as usize);
-        let queue = queues[k];
-        let point = crosspoints[k];
-        if !has_room(queue, point) {
+        if !crosspoints[k].has_room(queues[k]) {
             return false;
         }
     }
     true
-}
-
-// The crosspoint's cells with one more behind `count` others. Each place is written as it stands in the code: a processor
-// waits for a store to a computed place before it reads the two as one.
-fn with_cell(cells: [u32; 2], count: u8, cell: u32) -> [u32; 2]
-    requires { count < crosspoint_depth }
-    ensures { result ≡ set cells count cell }
-{
-    let mut filled = cells;
-    if count == 0 {
-        filled[0] = cell;
-        return filled;
-    }
-    filled[1] = cell;
-    filled
 }
 
 // The oldest cell of a queue goes to the crosspoint of head j, if there is one.
@@ -76,23 +47,14 @@ fn move_cell(queue: Queue, point: Crosspoint, cell: u32, j: usize, depth: usize)
 {
     if queue.count == 0 {
         return Move {
-            queue: queue,
-            point: point,
+            queue,
+            point,
             answer: Answer::Empty(j),
         };
     }
-    let next = ring_place(queue.place as usize + 1, depth);
-    let cells = point.cells;
-    let filled = with_cell(cells, point.count, cell);
     Move {
-        queue: Queue {
-            place: next as u8,
-            count: queue.count - 1,
-        },
-        point: Crosspoint {
-            cells: filled,
-            count: point.count + 1,
-        },
+        queue: queue.shorter(depth),
+        point: point.filled(cell),
         answer: Answer::Moved(j, cell),
     }
 }
@@ -118,15 +80,11 @@ impl Fabric {
             let j = turn.other as usize;
             let k = flow_place(n, i, j);
             let queue = self.queues[k];
-            let point = self.crosspoints[k];
-            let cell = store[oldest_place(n, depth, k, queue)];
-            let moved = move_cell(queue, point, cell, j, depth);
-            let queue_after = moved.queue;
-            let point_after = moved.point;
-            let answer = moved.answer;
-            self.queues[k] = queue_after;
-            self.crosspoints[k] = point_after;
-            answers[i] = answer;
+            let cell = store[queue.oldest_place(n, depth, k)];
+            let moved = move_cell(queue, self.crosspoints[k], cell, j, depth);
+            self.queues[k] = moved.queue;
+            self.crosspoints[k] = moved.point;
+            answers[i] = moved.answer;
         }
         AfterServices {
             fabric: self,

@@ -1,7 +1,7 @@
 // The head's half of a slot: each chosen flow sends a cell from its crosspoint.
 ghost use Rattle.std.specs.Prelude.{◌≡◌};
 ghost use Rattle.side.specs.Choices.{choices_in, CanChoose};
-ghost use Rattle.fabric.specs.Sends.{moved_up, send_of, sent_of};
+ghost use Rattle.fabric.specs.Sends.{send_of, sent_of};
 
 use crate::{AfterServices, Fabric};
 use crate::flow::{Answer, Crosspoint};
@@ -16,39 +16,19 @@ pub struct Send {
     pub answer: Answer,
 }
 
-// The cells after the oldest one left.
-fn moved_up(point: Crosspoint) -> [u32; 2]
-    ensures { result ≡ moved_up point }
-{
-    let mut cells = point.cells;
-    if 1 < point.count {
-        cells[0] = cells[1];
-        cells[1] = 0;
-        return cells;
-    }
-    cells[0] = 0;
-    cells
-}
-
 // The oldest cell of the crosspoint of board i is sent, if there is one.
 fn send_cell(point: Crosspoint, i: usize) -> Send
     ensures { result ≡ send_of i point }
 {
     if point.count == 0 {
         return Send {
-            point: point,
+            point,
             answer: Answer::Empty(i),
         };
     }
-    let cells = point.cells;
-    let cell = cells[0];
-    let left = moved_up(point);
     Send {
-        point: Crosspoint {
-            cells: left,
-            count: point.count - 1,
-        },
-        answer: Answer::Moved(i, cell),
+        point: point.without_oldest(),
+        answer: Answer::Moved(i, point.cells[0]),
     }
 }
 
@@ -66,12 +46,9 @@ impl Fabric {
             }
             let i = turn.other as usize;
             let k = flow_place(n, i, j);
-            let point = self.crosspoints[k];
-            let sent = send_cell(point, i);
-            let point_after = sent.point;
-            let answer = sent.answer;
-            self.crosspoints[k] = point_after;
-            answers[j] = answer;
+            let sent = send_cell(self.crosspoints[k], i);
+            self.crosspoints[k] = sent.point;
+            answers[j] = sent.answer;
         }
         AfterServices {
             fabric: self,

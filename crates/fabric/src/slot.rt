@@ -2,7 +2,7 @@
 ghost use Rattle.std.specs.Prelude.{◌≡◌, length};
 ghost use Rattle.fabric.specs.Slot.{run_of, CanRun};
 
-use crate::Fabric;
+use crate::{AfterServices, Fabric};
 use crate::flow::Answer;
 use plan::range::MOST_PORTS;
 use side::choices::Side;
@@ -21,19 +21,19 @@ impl Fabric {
         requires { CanRun n depth (length store.now) boards heads self }
         ensures { result ≡ run_of n depth store.now boards heads self }
     {
-        let board_turns = boards.turns;
-        let head_turns = heads.turns;
         let counted = self.counted(boards, heads, n);
-        let after_moves = counted.moved(store, board_turns, n, depth);
-        let moved = after_moves.fabric;
-        let moves = after_moves.answers;
-        let after_sends = moved.sent(head_turns, n);
-        let sent = after_sends.fabric;
-        let sends = after_sends.answers;
+        let AfterServices {
+            fabric: moved,
+            answers: moves,
+        } = counted.moved(store, boards.turns, n, depth);
+        let AfterServices {
+            fabric: sent,
+            answers: sends,
+        } = moved.sent(heads.turns, n);
         AfterSlot {
             fabric: sent,
-            moves: moves,
-            sends: sends,
+            moves,
+            sends,
         }
     }
 }
