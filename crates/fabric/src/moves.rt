@@ -3,8 +3,8 @@ ghost use Rattle.std.specs.Prelude.{◌≡◌, length};
 ghost use Rattle.side.specs.Choices.{choices_in, CanChoose};
 ghost use Rattle.fabric.specs.Moves.{move_of, moved_of, room_for_all, CanMove, CanMoveAll};
 
-use crate::{AfterServices, Fabric};
 use crate::flow::{Answer, Crosspoint, Queue};
+use crate::{AfterServices, Fabric};
 use plan::range::{MOST_FLOWS, MOST_PORTS};
 use side::choices::Turn;
 use side::places::flow_place;
@@ -17,7 +17,8 @@ pub struct Move {
     pub answer: Answer,
 }
 
-// Number 13: whether no board's service puts a third cell in a crosspoint.
+// Number 13: whether no board's service puts a third cell in a crosspoint. That the turns name ports below n is no invariant of
+// their type: where the step is refused the same turns go on with 0 ports.
 pub fn room_for_all(
     queues: [Queue; MOST_FLOWS],
     crosspoints: [Crosspoint; MOST_FLOWS],

@@ -3,13 +3,13 @@ ghost use Rattle.std.specs.Prelude.{◌≡◌};
 ghost use Rattle.side.specs.Choices.{choices_in, CanChoose};
 ghost use Rattle.fabric.specs.Sends.{send_of, sent_of};
 
-use crate::{AfterServices, Fabric};
 use crate::flow::{Answer, Crosspoint};
+use crate::{AfterServices, Fabric};
 use plan::range::MOST_PORTS;
 use side::choices::Turn;
 use side::places::flow_place;
 
-// What one head's service makes of its flow.
+// What one head's service makes of its flow: a Move without the queue, which a head does not touch.
 #[derive(Clone, Copy)]
 pub struct Send {
     pub point: Crosspoint,
@@ -33,7 +33,7 @@ fn send_cell(point: Crosspoint, i: usize) -> Send
 }
 
 impl Fabric {
-    // The services of the heads below n.
+    // The services of the heads below n. Not one loop with that of the boards: it reads no store and leaves the queues.
     pub fn sent(mut self, turns: [Turn; MOST_PORTS], n: usize) -> AfterServices
         requires { CanChoose n (choices_in turns) }
         ensures { result ≡ sent_of n (choices_in turns) self }

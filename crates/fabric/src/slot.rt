@@ -2,8 +2,8 @@
 ghost use Rattle.std.specs.Prelude.{◌≡◌, length};
 ghost use Rattle.fabric.specs.Slot.{run_of, CanRun};
 
-use crate::{AfterServices, Fabric};
 use crate::flow::Answer;
+use crate::{AfterServices, Fabric};
 use plan::range::MOST_PORTS;
 use side::choices::Side;
 

@@ -1,4 +1,3 @@
-use Rattle.std.proofs.Common.{refl}
 use borrow.Author.Tests.{eq-eqb, ne_eqb}
 use Rattle.fabric.specs.Sends.{send_of}
 use Rattle.fabric.proofs.sends.send_cell.Goals as goal

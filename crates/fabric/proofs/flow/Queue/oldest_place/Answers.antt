@@ -1,4 +1,3 @@
-use Rattle.std.proofs.Common.{◌+◌, ◌*◌, ◌<◌}
 use Rattle.fabric.proofs.FlowLaws.{cell_below, oldest_cell}
 use Rattle.fabric.proofs.flow.Queue.oldest_place.Goals as goal
 
