@@ -4,10 +4,9 @@ use Prim.Native.Nat.{ℕ, zero, suc}
 use mathlib.Core.Path.{◌≡◌, refl, sym, subst}
 use mathlib.Core.List.{List, [], ◌∷◌}
 use lib.ListN.{get_or, set, replicate}
+use Rattle.std.specs.Prelude.{Option, Some, None}
 use Rattle.plan.specs.Range.{most_ports}
 use Rattle.multiplexer.specs.Choose.{choose_of}
-use Rattle.multiplexer.specs.declared.Choice.{Choice}
-use Rattle.multiplexer.specs.declared.Choice.TheVariants.{Idle, Flow}
 use Rattle.multiplexer.specs.declared.Multiplexer.{Multiplexer}
 use Rattle.multiplexer.proofs.PacedLaws.{chosen_eligible}
 use Rattle.side.specs.Choices.{no_multiplexer, choices_of, choice_at, ChoosesPort}
@@ -28,14 +27,14 @@ repeated_is P n p v h = subst P (sym (get_d_repeated n p v)) h
 pub choose_names : (rates counts : List ℕ) (t slot : ℕ) → ChoosesPort (choose_of rates counts t slot)
 choose_names rates counts t slot = go (choose_of rates counts t slot) refl
   where
-    go : (c : Choice) → choose_of rates counts t slot ≡ c → ChoosesPort c
-    go Idle e = tt
-    go (Flow f) e = (chosen_eligible rates counts t slot f e).1
+    go : (c : Option ℕ) → choose_of rates counts t slot ≡ c → ChoosesPort c
+    go None e = tt
+    go (Some f) e = (chosen_eligible rates counts t slot f e).1
 
 pub choices_name : (line : ℕ → List ℕ) (ports : List Multiplexer) (t slot m p : ℕ) → ChoosesPort (choice_at (choices_of line ports t slot m) p)
 unfolding choices_of
-choices_name line ports t slot zero p = repeated_is ChoosesPort most_ports p Idle tt
+choices_name line ports t slot zero p = repeated_is ChoosesPort most_ports p None tt
 choices_name line ports t slot (suc m) p =
-    set_keeps ChoosesPort (choices_of line ports t slot m) m p _ Idle
+    set_keeps ChoosesPort (choices_of line ports t slot m) m p _ None
     (choose_names (line m) (get_or ports m no_multiplexer).served t slot)
     (choices_name line ports t slot m p)
