@@ -1,14 +1,13 @@
 // The board's half of a slot: each chosen flow moves a cell from its queue to its crosspoint.
 ghost use Rattle.std.specs.Prelude.{◌≡◌, ◌<◌, length, set};
 ghost use Rattle.fabric.specs.Flow.{crosspoint_depth};
-ghost use Rattle.side.specs.Choices.{choices_in, CanChoose};
+ghost use Rattle.side.specs.Choices.{CanChoose};
 ghost use Rattle.fabric.specs.Moves.{move_of, moved_of, room_in, room_for_all, CanMove, CanMoveAll};
 
 use crate::Fabric;
 use crate::flow::{Answer, CROSSPOINT_DEPTH, Crosspoint, Port, Queue};
 use crate::places::{oldest_place, ring_place};
 use plan::range::{MOST_FLOWS, MOST_PORTS};
-use side::choices::Turn;
 use side::places::flow_place;
 
 // What one board's service makes of its flow.
@@ -40,18 +39,17 @@ fn has_room(queue: Queue, point: Crosspoint) -> bool
 pub fn room_for_all(
     queues: [Queue; MOST_FLOWS],
     crosspoints: [Crosspoint; MOST_FLOWS],
-    turns: [Turn; MOST_PORTS],
+    choices: [Option<u8>; MOST_PORTS],
     n: usize,
 ) -> bool
-    requires { CanChoose n (choices_in turns) }
-    ensures { result ≡ room_for_all n (choices_in turns) queues crosspoints }
+    requires { CanChoose n choices }
+    ensures { result ≡ room_for_all n choices queues crosspoints }
 {
     for i in 0..n {
-        let turn = turns[i];
-        if !turn.serves {
+        let Some(j) = choices[i] else {
             continue;
-        }
-        let k = flow_place(n, i, turn.other as usize);
+        };
+        let k = flow_place(n, i, usize::from(j));
         let queue = queues[k];
         let point = crosspoints[k];
         if !has_room(queue, point) {
@@ -113,22 +111,21 @@ impl Fabric {
     pub fn moved(
         mut self,
         store: &[u32],
-        turns: [Turn; MOST_PORTS],
+        choices: [Option<u8>; MOST_PORTS],
         n: usize,
         depth: usize,
     ) -> AfterMoves
-        requires { CanMoveAll n depth (length store.now) (choices_in turns) self.queues self.crosspoints }
-        ensures { result ≡ moved_of n depth store.now (choices_in turns) self }
+        requires { CanMoveAll n depth (length store.now) choices self.queues self.crosspoints }
+        ensures { result ≡ moved_of n depth store.now choices self }
     {
         let mut ports = [Port {
             answer: Answer::Idle,
         }; MOST_PORTS];
         for i in 0..n {
-            let turn = turns[i];
-            if !turn.serves {
+            let Some(other) = choices[i] else {
                 continue;
-            }
-            let j = turn.other as usize;
+            };
+            let j = usize::from(other);
             let k = flow_place(n, i, j);
             let queue = self.queues[k];
             let point = self.crosspoints[k];

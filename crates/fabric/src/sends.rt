@@ -1,12 +1,11 @@
 // The head's half of a slot: each chosen flow sends a cell from its crosspoint.
 ghost use Rattle.std.specs.Prelude.{◌≡◌};
-ghost use Rattle.side.specs.Choices.{choices_in, CanChoose};
+ghost use Rattle.side.specs.Choices.{CanChoose};
 ghost use Rattle.fabric.specs.Sends.{moved_up, send_of, sent_of};
 
 use crate::Fabric;
 use crate::flow::{Answer, Crosspoint, Port};
 use plan::range::MOST_PORTS;
-use side::choices::Turn;
 use side::places::flow_place;
 
 // What one head's service makes of its flow.
@@ -65,19 +64,18 @@ fn send_cell(point: Crosspoint, i: usize) -> Send
 
 impl Fabric {
     // The services of the heads below n.
-    pub fn sent(mut self, turns: [Turn; MOST_PORTS], n: usize) -> AfterSends
-        requires { CanChoose n (choices_in turns) }
-        ensures { result ≡ sent_of n (choices_in turns) self }
+    pub fn sent(mut self, choices: [Option<u8>; MOST_PORTS], n: usize) -> AfterSends
+        requires { CanChoose n choices }
+        ensures { result ≡ sent_of n choices self }
     {
         let mut ports = [Port {
             answer: Answer::Idle,
         }; MOST_PORTS];
         for j in 0..n {
-            let turn = turns[j];
-            if !turn.serves {
+            let Some(other) = choices[j] else {
                 continue;
-            }
-            let i = turn.other as usize;
+            };
+            let i = usize::from(other);
             let k = flow_place(n, i, j);
             let point = self.crosspoints[k];
             let sent = send_cell(point, i);

@@ -21,13 +21,13 @@ impl Fabric {
         requires { CanRun n depth (length store.now) boards heads self }
         ensures { result ≡ run_of n depth store.now boards heads self }
     {
-        let board_turns = boards.turns;
-        let head_turns = heads.turns;
+        let board_choices = boards.choices;
+        let head_choices = heads.choices;
         let counted = self.counted(boards, heads, n);
-        let after_moves = counted.moved(store, board_turns, n, depth);
+        let after_moves = counted.moved(store, board_choices, n, depth);
         let moved = after_moves.fabric;
         let moves = after_moves.ports;
-        let after_sends = moved.sent(head_turns, n);
+        let after_sends = moved.sent(head_choices, n);
         let sent = after_sends.fabric;
         let sends = after_sends.ports;
         AfterSlot {

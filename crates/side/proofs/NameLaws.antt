@@ -1,7 +1,7 @@
 -- Which ports the choices of a slot can name: those that a switch can have, whatever stands in the lists that they are made
 -- of. A port looks at its first flows only, as many as a switch can have ports.
 use Prim.Native.Nat.{ℕ, zero, suc}
-use mathlib.Core.Path.{◌≡◌, refl, sym, subst}
+use mathlib.Core.Path.{◌≡◌, refl, ap, sym, subst, ◌∙◌}
 use mathlib.Core.List.{List, [], ◌∷◌}
 use lib.ListN.{get_or, set, replicate}
 use Rattle.std.specs.Prelude.{Option, Some, None}
@@ -11,6 +11,10 @@ use Rattle.multiplexer.specs.declared.Multiplexer.{Multiplexer}
 use Rattle.multiplexer.proofs.PacedLaws.{chosen_eligible}
 use Rattle.side.specs.Choices.{no_multiplexer, choices_of, choice_at, ChoosesPort}
 use Rattle.side.proofs.ListLaws.{get_d_repeated}
+
+-- a choice names the same port by a wider number
+pub widened : {o : Option ℕ} {byte index : ℕ} → o ≡ Some byte → index ≡ byte → o ≡ Some index
+widened is same = is ∙ ap Some (sym same)
 
 -- what holds at a place of a list, and of a value that is put somewhere into it, holds at that place afterwards
 pub set_keeps : {A : Type 0} (P : A → Type 0) (l : List A) (m p : ℕ) (v d : A) → P v → P (get_or l p d) → P (get_or (set l m v) p d)
