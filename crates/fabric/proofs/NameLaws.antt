@@ -2,9 +2,8 @@
 -- made of, if the choices name such ports.
 use Prim.Native.Nat.{ℕ, zero, suc, ◌<◌}
 use mathlib.Core.List.{List}
+use Rattle.std.specs.Prelude.{Option, Some, None}
 use Rattle.plan.specs.Range.{most_ports}
-use Rattle.multiplexer.specs.declared.Choice.{Choice}
-use Rattle.multiplexer.specs.declared.Choice.TheVariants.{Idle, Flow}
 use Rattle.fabric.specs.Answer.{answer_of, all_idle}
 use Rattle.side.specs.Choices.{choice_at, ChoosesPort}
 use Rattle.fabric.specs.Moves.{Moves, board_moves, moves_of}
@@ -26,7 +25,7 @@ NamesPort (answer.Moved other cell) = other < most_ports
 pub idle_names : (p : ℕ) → NamesPort (answer_of all_idle p)
 idle_names p = repeated_is NamesPort most_ports p answer.Idle tt
 
-module _ (choices : List Choice) (named : (p : ℕ) → ChoosesPort (choice_at choices p)) where
+module _ (choices : List (Option ℕ)) (named : (p : ℕ) → ChoosesPort (choice_at choices p)) where
   pub moves_name : (n depth : ℕ) (store : List ℕ) (queues : List Queue) (points : List Crosspoint) (m p : ℕ)
       → NamesPort (answer_of (moves_of n depth store choices queues points m).answers p)
   unfolding moves_of board_moves
@@ -34,9 +33,9 @@ module _ (choices : List Choice) (named : (p : ℕ) → ChoosesPort (choice_at c
   moves_name n depth store queues points (suc m) p =
       go (choice_at choices m) (named m) (moves_of n depth store choices queues points m) (moves_name n depth store queues points m p)
     where
-      go : (c : Choice) → ChoosesPort c → (f : Moves) → NamesPort (answer_of f.answers p) → NamesPort (answer_of (board_moves n depth store m c f).answers p)
-      go Idle h f was = was
-      go (Flow j) h f was =
+      go : (c : Option ℕ) → ChoosesPort c → (f : Moves) → NamesPort (answer_of f.answers p) → NamesPort (answer_of (board_moves n depth store m c f).answers p)
+      go None h f was = was
+      go (Some j) h f was =
           set_keeps NamesPort f.answers m p _ answer.Idle (move_case (λ r. NamesPort r.answer) depth j _ _ _ (λ _. h) (λ _. h)) was
 
   pub sends_name : (n : ℕ) (points : List Crosspoint) (m p : ℕ) → NamesPort (answer_of (sends_of n choices points m).answers p)
@@ -45,7 +44,7 @@ module _ (choices : List Choice) (named : (p : ℕ) → ChoosesPort (choice_at c
   sends_name n points (suc m) p =
       go (choice_at choices m) (named m) (sends_of n choices points m) (sends_name n points m p)
     where
-      go : (c : Choice) → ChoosesPort c → (f : Sends) → NamesPort (answer_of f.answers p) → NamesPort (answer_of (head_sends n m c f).answers p)
-      go Idle h f was = was
-      go (Flow i) h f was =
+      go : (c : Option ℕ) → ChoosesPort c → (f : Sends) → NamesPort (answer_of f.answers p) → NamesPort (answer_of (head_sends n m c f).answers p)
+      go None h f was = was
+      go (Some i) h f was =
           set_keeps NamesPort f.answers m p _ answer.Idle (send_case (λ r. NamesPort r.answer) i _ (λ _. h) (λ _. h)) was

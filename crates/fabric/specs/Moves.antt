@@ -1,10 +1,8 @@
 -- "Each chosen flow of an input moves the oldest cell of its queue to its crosspoint, if it has one." Number 13: "a step
 -- would put a third cell in a crosspoint".
-use Rattle.std.specs.Prelude.{ℕ, zero, suc, ◌+◌, ◌-◌, ◌*◌, ◌%◌, ◌<◌, ◌≤◌, ◌≡◌, Bool, true, cond, ◌||◌, List, ltb, eqb, get_or, set}
+use Rattle.std.specs.Prelude.{ℕ, zero, suc, ◌+◌, ◌-◌, ◌*◌, ◌%◌, ◌<◌, ◌≤◌, ◌≡◌, Bool, true, cond, ◌||◌, List, ltb, eqb, get_or, set, Option, Some, None}
 use Rattle.plan.specs.Below.{all_below}
 use Rattle.plan.specs.Lines.{flow_of}
-use Rattle.multiplexer.specs.declared.Choice.{Choice}
-use Rattle.multiplexer.specs.declared.Choice.TheVariants.{Idle, Flow}
 use Rattle.fabric.specs.Flow.{most_depth, crosspoint_depth, no_queue, no_point, cell_place}
 use Rattle.fabric.specs.Answer.{all_idle}
 use Rattle.side.specs.Choices.{choice_at, CanChoose}
@@ -53,18 +51,18 @@ with_move i k f r =
     record { queues = set f.queues k r.queue; crosspoints = set f.crosspoints k r.point; answers = set f.answers i r.answer }
 
 -- board i's part of the slot
-unfoldable pub board_moves : ℕ → ℕ → List ℕ → ℕ → Choice → Moves → Moves
-board_moves n depth store i Idle f = f
-board_moves n depth store i (Flow j) f = let k = flow_of n i j in with_move i k f (move_at depth store j k f)
+unfoldable pub board_moves : ℕ → ℕ → List ℕ → ℕ → Option ℕ → Moves → Moves
+board_moves n depth store i None f = f
+board_moves n depth store i (Some j) f = let k = flow_of n i j in with_move i k f (move_at depth store j k f)
 
 -- the boards below m
-unfoldable pub moves_of : ℕ → ℕ → List ℕ → List Choice → List Queue → List Crosspoint → ℕ → Moves
+unfoldable pub moves_of : ℕ → ℕ → List ℕ → List (Option ℕ) → List Queue → List Crosspoint → ℕ → Moves
 moves_of n depth store choices queues points zero = record { queues = queues; crosspoints = points; answers = all_idle }
 moves_of n depth store choices queues points (suc m) =
     board_moves n depth store m (choice_at choices m) (moves_of n depth store choices queues points m)
 
 -- the same on the fabric, whose counts stay: all n boards
-abbrev pub moved_of : ℕ → ℕ → List ℕ → List Choice → Fabric → AfterServices
+abbrev pub moved_of : ℕ → ℕ → List ℕ → List (Option ℕ) → Fabric → AfterServices
 moved_of n depth store choices f =
     let m = moves_of n depth store choices f.queues f.crosspoints n in
     record {
@@ -77,13 +75,13 @@ abbrev pub room_in : Queue → Crosspoint → Bool
 room_in q x = eqb q.count 0 || ltb x.count crosspoint_depth
 
 -- the same of board i's service
-unfoldable pub room_for : ℕ → List Queue → List Crosspoint → ℕ → Choice → Bool
-room_for n queues points i Idle = true
-room_for n queues points i (Flow j) =
+unfoldable pub room_for : ℕ → List Queue → List Crosspoint → ℕ → Option ℕ → Bool
+room_for n queues points i None = true
+room_for n queues points i (Some j) =
     let k = flow_of n i j in
     room_in (get_or queues k no_queue) (get_or points k no_point)
 
-unfoldable pub room_for_all : ℕ → List Choice → List Queue → List Crosspoint → Bool
+unfoldable pub room_for_all : ℕ → List (Option ℕ) → List Queue → List Crosspoint → Bool
 room_for_all n choices queues points = all_below (λ i. room_for n queues points i (choice_at choices i)) n
 
 -- For the code: what it asks of one move
@@ -94,7 +92,7 @@ pub record CanMove (depth : ℕ) (q : Queue) (x : Crosspoint) : Type 0 where
   pub room : room_in q x ≡ true
 
 -- and of all moves of a slot, in which none may act.
-pub record CanMoveAll (n depth len : ℕ) (choices : List Choice) (queues : List Queue) (points : List Crosspoint) : Type 0 where
+pub record CanMoveAll (n depth len : ℕ) (choices : List (Option ℕ)) (queues : List Queue) (points : List Crosspoint) : Type 0 where
   pub choosing : CanChoose n choices
   pub some_depth : 1 ≤ n → 1 ≤ depth
   pub few_cells : 1 ≤ n → depth ≤ most_depth

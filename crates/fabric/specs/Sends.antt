@@ -1,10 +1,8 @@
 -- "Each chosen flow of an output sends the oldest cell of its crosspoint, if it has one, counting a cell moved in this
 -- slot." "Its oldest cell is in the first place; sending moves the second one up, and the place that falls empty is set
 -- to 0."
-use Rattle.std.specs.Prelude.{ℕ, zero, suc, ◌-◌, cond, List, eqb, ltb, get_or, set}
+use Rattle.std.specs.Prelude.{ℕ, zero, suc, ◌-◌, cond, List, eqb, ltb, get_or, set, Option, Some, None}
 use Rattle.plan.specs.Lines.{flow_of}
-use Rattle.multiplexer.specs.declared.Choice.{Choice}
-use Rattle.multiplexer.specs.declared.Choice.TheVariants.{Idle, Flow}
 use Rattle.fabric.specs.Flow.{no_point}
 use Rattle.fabric.specs.Answer.{all_idle}
 use Rattle.side.specs.Choices.{choice_at}
@@ -44,20 +42,20 @@ pub record Sends : Type 0 where
   pub answers : List Answer
 
 -- head j's part of the slot
-unfoldable pub head_sends : ℕ → ℕ → Choice → Sends → Sends
-head_sends n j Idle f = f
-head_sends n j (Flow i) f =
+unfoldable pub head_sends : ℕ → ℕ → Option ℕ → Sends → Sends
+head_sends n j None f = f
+head_sends n j (Some i) f =
     let k = flow_of n i j in
     let r = send_of i (get_or f.crosspoints k no_point) in
     record { crosspoints = set f.crosspoints k r.point; answers = set f.answers j r.answer }
 
 -- the heads below m
-unfoldable pub sends_of : ℕ → List Choice → List Crosspoint → ℕ → Sends
+unfoldable pub sends_of : ℕ → List (Option ℕ) → List Crosspoint → ℕ → Sends
 sends_of n choices points zero = record { crosspoints = points; answers = all_idle }
 sends_of n choices points (suc m) = head_sends n m (choice_at choices m) (sends_of n choices points m)
 
 -- the same on the fabric, whose queues and counts stay: all n heads
-abbrev pub sent_of : ℕ → List Choice → Fabric → AfterServices
+abbrev pub sent_of : ℕ → List (Option ℕ) → Fabric → AfterServices
 sent_of n choices f =
     let s = sends_of n choices f.crosspoints n in
     record {

@@ -1,12 +1,11 @@
 // The board's half of a slot: each chosen flow moves a cell from its queue to its crosspoint.
 ghost use Rattle.std.specs.Prelude.{◌≡◌, length};
-ghost use Rattle.side.specs.Choices.{choices_in, CanChoose};
+ghost use Rattle.side.specs.Choices.{CanChoose};
 ghost use Rattle.fabric.specs.Moves.{move_of, moved_of, room_for_all, CanMove, CanMoveAll};
 
 use crate::flow::{Answer, Crosspoint, Queue};
 use crate::{AfterServices, Fabric};
 use plan::range::{MOST_FLOWS, MOST_PORTS};
-use side::choices::Turn;
 use side::places::flow_place;
 
 // What one board's service makes of its flow.
@@ -17,23 +16,22 @@ pub struct Move {
     pub answer: Answer,
 }
 
-// Number 13: whether no board's service puts a third cell in a crosspoint. That the turns name ports below n is no invariant of
-// their type: where the step is refused the same turns go on with 0 ports.
+// Number 13: whether no board's service puts a third cell in a crosspoint. That the choices name ports below n is no invariant
+// of a type: where a step is refused, the same choices go on with 0 ports.
 pub fn room_for_all(
     queues: [Queue; MOST_FLOWS],
     crosspoints: [Crosspoint; MOST_FLOWS],
-    turns: [Turn; MOST_PORTS],
+    choices: [Option<u8>; MOST_PORTS],
     n: usize,
 ) -> bool
-    requires { CanChoose n (choices_in turns) }
-    ensures { result ≡ room_for_all n (choices_in turns) queues crosspoints }
+    requires { CanChoose n choices }
+    ensures { result ≡ room_for_all n choices queues crosspoints }
 {
     for i in 0..n {
-        let turn = turns[i];
-        if !turn.serves {
+        let Some(j) = choices[i] else {
             continue;
-        }
-        let k = flow_place(n, i, turn.other as usize);
+        };
+        let k = flow_place(n, i, usize::from(j));
         if !crosspoints[k].has_room(queues[k]) {
             return false;
         }
@@ -65,20 +63,19 @@ impl Fabric {
     pub fn moved(
         mut self,
         store: &[u32],
-        turns: [Turn; MOST_PORTS],
+        choices: [Option<u8>; MOST_PORTS],
         n: usize,
         depth: usize,
     ) -> AfterServices
-        requires { CanMoveAll n depth (length store.now) (choices_in turns) self.queues self.crosspoints }
-        ensures { result ≡ moved_of n depth store.now (choices_in turns) self }
+        requires { CanMoveAll n depth (length store.now) choices self.queues self.crosspoints }
+        ensures { result ≡ moved_of n depth store.now choices self }
     {
         let mut answers = [Answer::Idle; MOST_PORTS];
         for i in 0..n {
-            let turn = turns[i];
-            if !turn.serves {
+            let Some(other) = choices[i] else {
                 continue;
-            }
-            let j = turn.other as usize;
+            };
+            let j = usize::from(other);
             let k = flow_place(n, i, j);
             let queue = self.queues[k];
             let cell = store[queue.oldest_place(n, depth, k)];

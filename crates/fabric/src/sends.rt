@@ -1,12 +1,11 @@
 // The head's half of a slot: each chosen flow sends a cell from its crosspoint.
 ghost use Rattle.std.specs.Prelude.{◌≡◌};
-ghost use Rattle.side.specs.Choices.{choices_in, CanChoose};
+ghost use Rattle.side.specs.Choices.{CanChoose};
 ghost use Rattle.fabric.specs.Sends.{send_of, sent_of};
 
 use crate::flow::{Answer, Crosspoint};
 use crate::{AfterServices, Fabric};
 use plan::range::MOST_PORTS;
-use side::choices::Turn;
 use side::places::flow_place;
 
 // What one head's service makes of its flow: a Move without the queue, which a head does not touch.
@@ -34,17 +33,16 @@ fn send_cell(point: Crosspoint, i: usize) -> Send
 
 impl Fabric {
     // The services of the heads below n. Not one loop with that of the boards: it reads no store and leaves the queues.
-    pub fn sent(mut self, turns: [Turn; MOST_PORTS], n: usize) -> AfterServices
-        requires { CanChoose n (choices_in turns) }
-        ensures { result ≡ sent_of n (choices_in turns) self }
+    pub fn sent(mut self, choices: [Option<u8>; MOST_PORTS], n: usize) -> AfterServices
+        requires { CanChoose n choices }
+        ensures { result ≡ sent_of n choices self }
     {
         let mut answers = [Answer::Idle; MOST_PORTS];
         for j in 0..n {
-            let turn = turns[j];
-            if !turn.serves {
+            let Some(other) = choices[j] else {
                 continue;
-            }
-            let i = turn.other as usize;
+            };
+            let i = usize::from(other);
             let k = flow_place(n, i, j);
             let sent = send_cell(self.crosspoints[k], i);
             self.crosspoints[k] = sent.point;

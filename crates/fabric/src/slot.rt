@@ -25,11 +25,11 @@ impl Fabric {
         let AfterServices {
             fabric: moved,
             answers: moves,
-        } = counted.moved(store, boards.turns, n, depth);
+        } = counted.moved(store, boards.choices, n, depth);
         let AfterServices {
             fabric: sent,
             answers: sends,
-        } = moved.sent(heads.turns, n);
+        } = moved.sent(heads.choices, n);
         AfterSlot {
             fabric: sent,
             moves,
