@@ -27,13 +27,12 @@ pub fn room_for_all(
     requires { CanChoose n choices }
     ensures { result ≡ room_for_all n choices queues crosspoints }
 {
-    for i in 0..n {
-        let Some(j) = choices[i] else {
-            continue;
-        };
-        let k = flow_place(n, i, usize::from(j));
-        if !crosspoints[k].has_room(queues[k]) {
-            return false;
+    for (i, choice) in choices[..n].iter().enumerate() {
+        if let Some(j) = choice {
+            let k = flow_place(n, i, usize::from(*j));
+            if !crosspoints[k].has_room(queues[k]) {
+                return false;
+            }
         }
     }
     true
