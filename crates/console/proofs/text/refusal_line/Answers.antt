@@ -1,6 +1,6 @@
 use Rattle.std.proofs.Common.{ℕ, List, refl, arith, ap, length, length-append, ◌≡◌, ◌+◌, ◌≤◌}
 use Rattle.refusal.specs.Number.{verdict_number_of}
-use Rattle.refusal.specs.declared.Verdict.{Verdict}
+use Rattle.refusal.specs.Verdict.{Verdict}
 use Rattle.console.specs.Text.{decimal_of, HasRoom}
 use Rattle.console.specs.Refused.{refusal_line_of}
 use Rattle.console.proofs.TextLaws.{written_as, written_on}

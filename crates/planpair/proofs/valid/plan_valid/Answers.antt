@@ -4,7 +4,7 @@ use mathlib.Core.Path.{ap, sym, ◌∙◌}
 use native.Mathlib.Omega.{arith}
 use lib.Seq.{length-take-le}
 use Rattle.refusal.specs.Chain.{if_accepted}
-use Rattle.refusal.specs.declared.Verdict.{Verdict}
+use Rattle.refusal.specs.Verdict.{Verdict}
 use Rattle.plan.specs.Range.{most_ports}
 use Rattle.plan.proofs.TestLaws.{failed, passed}
 use Rattle.plan.proofs.RangeLaws.{ports_range}

@@ -1,7 +1,7 @@
 use mathlib.Core.Path.{◌≡◌, sym, ◌∙◌}
 use lib.ListN.{length}
 use Rattle.refusal.specs.declared.Refusal.TheVariants.{RowAboveFrame, ColumnAboveFrame}
-use Rattle.refusal.specs.declared.Verdict.TheVariants.{Accepted}
+use Rattle.std.specs.Prelude.{Ok}
 use Rattle.plan.proofs.TestLaws.{failed, passed}
 use Rattle.plan.proofs.AcceptLaws.{accepted}
 use Rattle.regulator.specs.Outcome.{lists_of, Checked}
@@ -12,7 +12,7 @@ use Rattle.regulator.proofs.boost.boost.Goals.{In-Accepted}
 use Rattle.regulator.proofs.boost.boost.Goals as goal
 
 -- the first checks have passed
-lists_pass : (c : In-Accepted) → lists_of c.args.n c.args.t (length c.args.given.now) (length c.args.rates.now) ≡ Accepted
+lists_pass : (c : In-Accepted) → lists_of c.args.n c.args.t (length c.args.given.now) (length c.args.rates.now) ≡ Ok tt
 lists_pass c = sym c.check_lists-verdict.ensures ∙ c.in-Accepted.is
 
 checked : (c : In-Accepted) → Checked c.args.n c.args.t (length c.args.given.now) (length c.args.rates.now)
@@ -46,7 +46,7 @@ copy-requires c = let h = checked (goal.at.copy-requires c).In-Accepted in h.to_
 pub boost_diagonals-requires : goal.boost_diagonals-requires
 boost_diagonals-requires c =
     let verdict = sums_verdict _ _ _ c.args.rates.now _ _ (lists_pass (goal.at.boost_diagonals-requires c).In-Accepted) c.sums_of-sums.ensures in
-    let pass : boost_verdict c.args.n c.args.t c.args.given.now c.args.rates.now ≡ Accepted =
+    let pass : boost_verdict c.args.n c.args.t c.args.given.now c.args.rates.now ≡ Ok tt =
     verdict ∙ simp (passed c.sums_fit.ensures c.if-not-sums_fit.false, passed c.sums_fit-2.ensures c.if-not-sums_fit-2.false) in
     rw c.copy.ensures (accepted _ _ _ (boost_taken _ _ _ _ pass).0, c.sums_of-sums.ensures)
 
@@ -54,6 +54,6 @@ pub returns : goal.returns
 unfolding boost_of
 returns c =
     let verdict = sums_verdict _ _ _ c.args.rates.now _ _ (lists_pass (goal.at.returns c).In-Accepted) c.sums_of-sums.ensures in
-    let pass : boost_verdict c.args.n c.args.t c.args.given.now c.args.rates.now ≡ Accepted =
+    let pass : boost_verdict c.args.n c.args.t c.args.given.now c.args.rates.now ≡ Ok tt =
     verdict ∙ simp (passed c.sums_fit.ensures c.if-not-sums_fit.false, passed c.sums_fit-2.ensures c.if-not-sums_fit-2.false) in
     rw (c.in-Accepted.is, c.boost_diagonals.ensures, c.copy.ensures) (done_outcome _ _ _ pass)

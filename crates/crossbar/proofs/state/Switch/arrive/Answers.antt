@@ -1,15 +1,15 @@
 use mathlib.Core.Path.{◌≡◌, sym, ◌∙◌}
 use native.Mathlib.Omega.{arith}
 use Prim.Native.Nat.{ℕ}
-use Rattle.refusal.specs.declared.Verdict.{Verdict}
+use Rattle.refusal.specs.Verdict.{Verdict}
 use Rattle.crossbar.specs.declared.state.Switch.{Switch}
-use Rattle.refusal.specs.declared.Verdict.TheVariants.{Accepted}
+use Rattle.std.specs.Prelude.{Ok}
 use Rattle.crossbar.specs.Arrive.{arrive_verdict}
 use Rattle.crossbar.proofs.ArriveLaws.{can_arrive, arrive_accepted, arrive_refused, Placed, placed}
 use Rattle.crossbar.proofs.state.Switch.arrive.Goals as goal
 
 -- where the arrival is accepted
-known : {s : Switch} {len i j : ℕ} {v : Verdict} → v ≡ arrive_verdict s len i j → v ≡ Accepted → Placed s len i j
+known : {s : Switch} {len i j : ℕ} {v : Verdict} → v ≡ arrive_verdict s len i j → v ≡ Ok tt → Placed s len i j
 known is pass = placed _ _ _ _ (can_arrive _ _ _ _ (sym is ∙ pass))
 
 pub returns-in_default : goal.returns-in_default
