@@ -24,14 +24,14 @@ pub returns-then-n-self : goal.returns-then-n-self
 unfolding load_verdict
 returns-then-n-self c =
     let valid_pass : valid_of c.args.self ≡ true = passed c.is_valid.ensures c.if-not-is_valid.false in
-    let plan_pass : let a = c.args in accept_of a.n a.t a.rates.now ≡ Ok tt = sym c.accept-verdict.ensures ∙ c.in-Accepted.is in
+    let plan_pass : let a = c.args in accept_of a.n a.t a.rates.now ≡ Ok tt = sym c.accept-verdict.ensures ∙ c.in-Ok.is in
     simp (valid_pass, plan_pass, ne_eqb _ _ c.if-n-self.true)
 
 pub returns-then-t-self : goal.returns-then-t-self
 unfolding load_verdict
 returns-then-t-self c =
     let valid_pass : valid_of c.args.self ≡ true = passed c.is_valid.ensures c.if-not-is_valid.false in
-    let plan_pass : let a = c.args in accept_of a.n a.t a.rates.now ≡ Ok tt = sym c.accept-verdict.ensures ∙ c.in-Accepted.is in
+    let plan_pass : let a = c.args in accept_of a.n a.t a.rates.now ≡ Ok tt = sym c.accept-verdict.ensures ∙ c.in-Ok.is in
     simp (
       valid_pass,
       plan_pass,
@@ -43,7 +43,7 @@ pub returns : goal.returns
 unfolding load_verdict
 returns c =
     let valid_pass : valid_of c.args.self ≡ true = passed c.is_valid.ensures c.if-not-is_valid.false in
-    let plan_pass : let a = c.args in accept_of a.n a.t a.rates.now ≡ Ok tt = sym c.accept-verdict.ensures ∙ c.in-Accepted.is in
+    let plan_pass : let a = c.args in accept_of a.n a.t a.rates.now ≡ Ok tt = sym c.accept-verdict.ensures ∙ c.in-Ok.is in
     simp (
       valid_pass,
       plan_pass,
