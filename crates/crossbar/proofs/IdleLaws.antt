@@ -53,7 +53,7 @@ module _
     unfolding head_choices
     heads_can = choices_named (column_of (plan_rates u.running) n) u.fabric.heads u.running.frame u.slot n few (λ j _. column_length (plan_rates u.running) n j)
 
-    board_idle : (i : ℕ) → i < n → answer_of (slot_moves u store).ports i ≡ Idle → choice_at (board_choices u) i ≡ choice.Idle
+    board_idle : (i : ℕ) → i < n → answer_of (slot_moves u store).answers i ≡ Idle → choice_at (board_choices u) i ≡ choice.Idle
     board_idle i l h = go (choice_at (board_choices u) i) refl
       where
         go : (c : Choice) → choice_at (board_choices u) i ≡ c → choice_at (board_choices u) i ≡ choice.Idle
@@ -64,7 +64,7 @@ module _
     filled_full : length (slot_moves u store).crosspoints ≡ most_flows
     filled_full = (moves_length n u.depth store (board_choices u) u.fabric.queues u.fabric.crosspoints n).points_kept ∙ points_full
 
-    head_idle : (j : ℕ) → j < n → answer_of (slot_sends u store).ports j ≡ Idle → choice_at (head_choices u) j ≡ choice.Idle
+    head_idle : (j : ℕ) → j < n → answer_of (slot_sends u store).answers j ≡ Idle → choice_at (head_choices u) j ≡ choice.Idle
     head_idle j l h = go (choice_at (head_choices u) j) refl
       where
         go : (c : Choice) → choice_at (head_choices u) j ≡ c → choice_at (head_choices u) j ≡ choice.Idle

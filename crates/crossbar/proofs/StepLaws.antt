@@ -125,7 +125,7 @@ module _ (s : Switch) (size : Sized s) (v : IsValid s) (store : List ℕ) (board
             ∙ ap (λ (c : List Choice). counts_of n (eqb (s.slot + 1) T) c s.fabric.heads n) (sym by_heads.choices ∙ heads_are)
 
         pub ran : run_of n s.depth store boards heads s.fabric
-            ≡ record { fabric = (after_slot u store).fabric; moves = (slot_moves u store).ports; sends = (slot_sends u store).ports }
+            ≡ record { fabric = (after_slot u store).fabric; moves = (slot_moves u store).answers; sends = (slot_sends u store).answers }
         unfolding after_slot
         ran = rw (boards_are, heads_are, board_counts, head_counts, r.ports, r.frame, r.depth, r.slot, r.fabric) refl
 
@@ -300,7 +300,7 @@ module _
                 by_rows' : ServedAs (λ p. desk_of (take (s.running.ports * s.running.ports) s.running.rates) (take (s.running.ports * s.running.ports) s.waiting.rates) s.running.ports p (takes_over s)) s.fabric.boards s.running.frame s.slot s.running.ports boards
                 by_rows' = rw all at by-desk
 
-                ran' : run ≡ record { fabric = (after_slot (takeover_of s) store).fabric; moves = (slot_moves (takeover_of s) store).ports; sends = (slot_sends (takeover_of s) store).ports }
+                ran' : run ≡ record { fabric = (after_slot (takeover_of s) store).fabric; moves = (slot_moves (takeover_of s) store).answers; sends = (slot_sends (takeover_of s) store).answers }
                 ran' = run_is ∙ (rw (a.same, all) (ran s size a.rules store boards heads by_rows' zeros full (rw all at (heads_by a.same))))
 
               accepted : 1 ≤ m → answer (takeover_of s).running (takeover_of s).waiting (takeover_of s).waits ≡ step_of s store

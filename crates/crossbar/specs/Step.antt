@@ -71,7 +71,7 @@ after_slot s store =
 
 -- what an accepted step answers
 abbrev pub slot_reply : Switch → List ℕ → SlotReply
-slot_reply s store = record { verdict = Ok tt; state = after_slot s store; moves = (slot_moves s store).ports; sends = (slot_sends s store).ports }
+slot_reply s store = record { verdict = Ok tt; state = after_slot s store; moves = (slot_moves s store).answers; sends = (slot_sends s store).answers }
 
 -- what a refused step answers
 abbrev pub refused_reply : Switch → Verdict → SlotReply
@@ -95,8 +95,8 @@ step_of s store =
     record {
       verdict = v;
       state = if_accepted v (after_slot u store) s;
-      moves = if_accepted v (slot_moves u store).ports all_idle;
-      sends = if_accepted v (slot_sends u store).ports all_idle;
+      moves = if_accepted v (slot_moves u store).answers all_idle;
+      sends = if_accepted v (slot_sends u store).answers all_idle;
     }
 
 -- what `step` ensures

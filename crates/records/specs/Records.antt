@@ -10,7 +10,6 @@ use Rattle.multiplexer.specs.declared.Choice.TheVariants.{Idle, Flow}
 use Rattle.fabric.specs.Answer.{kind_of, answer_of}
 use Rattle.fabric.specs.declared.flow.Answer.{Answer}
 use Rattle.fabric.specs.declared.flow.Answer.TheVariants as answer
-use Rattle.fabric.specs.declared.flow.Port.{Port}
 use Rattle.crossbar.specs.declared.state.Reply.{Reply}
 use Rattle.crossbar.specs.declared.state.SlotReply.{SlotReply}
 use Rattle.records.specs.declared.PortRecord.{PortRecord}
@@ -37,12 +36,12 @@ abbrev pub answer_record : Answer → PortRecord
 answer_record a = record { kind = kind_of a; other = other_of a; cell = cell_of a }
 
 -- the records of the ports below m; those from m up are idle
-unfoldable pub records_below : List Port → ℕ → List PortRecord
-records_below ports zero = replicate most_ports (answer_record answer.Idle)
-records_below ports (suc m) = set (records_below ports m) m (answer_record (answer_of ports m))
+unfoldable pub records_below : List Answer → ℕ → List PortRecord
+records_below answers zero = replicate most_ports (answer_record answer.Idle)
+records_below answers (suc m) = set (records_below answers m) m (answer_record (answer_of answers m))
 
-abbrev pub port_records : List Port → List PortRecord
-port_records ports = records_below ports most_ports
+abbrev pub port_records : List Answer → List PortRecord
+port_records answers = records_below answers most_ports
 
 -- "With none eligible the port idles": the number of each case of a choice
 abbrev pub choice_kind_of : Choice → ℕ

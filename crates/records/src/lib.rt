@@ -8,7 +8,7 @@ ghost use Rattle.fabric.specs.Answer.{kind_of};
 ghost use Rattle.records.specs.Records.{other_of, cell_of, answer_record, port_records, choice_record, choice_in, reply_record, slot_record, reading_record, cover_record};
 
 use crossbar::state::{Reply, SlotReply, Switch};
-use fabric::flow::{Answer, Port};
+use fabric::flow::Answer;
 use meter::{Measured, Stretch};
 use multiplexer::Choice;
 use plan::Plan;
@@ -113,10 +113,9 @@ fn cell_of(answer: Answer) -> u32
 }
 
 // Field by field: a processor need not foresee which kind comes.
-fn port_record(port: Port) -> PortRecord
-    ensures { result ≡ answer_record port.answer }
+fn port_record(answer: Answer) -> PortRecord
+    ensures { result ≡ answer_record answer }
 {
-    let answer = port.answer;
     PortRecord {
         kind: kind_of(answer),
         other: other_of(answer),
@@ -125,8 +124,8 @@ fn port_record(port: Port) -> PortRecord
 }
 
 #[tactic(auto, unfolding(crate::specs::Records::records_below))]
-fn port_records(ports: [Port; MOST_PORTS]) -> [PortRecord; MOST_PORTS]
-    ensures { result ≡ port_records ports }
+fn port_records(answers: [Answer; MOST_PORTS]) -> [PortRecord; MOST_PORTS]
+    ensures { result ≡ port_records answers }
 {
     let mut records = [PortRecord {
         kind: IDLE,
@@ -134,9 +133,7 @@ fn port_records(ports: [Port; MOST_PORTS]) -> [PortRecord; MOST_PORTS]
         cell: 0,
     }; MOST_PORTS];
     for p in 0..MOST_PORTS {
-        let port = ports[p];
-        let record = port_record(port);
-        records[p] = record;
+        records[p] = port_record(answers[p]);
     }
     records
 }

@@ -137,10 +137,10 @@ module _ {u : Switch} {store : List ℕ} (ok : Sound u store) where
     z = get_or sends.crosspoints k no_point
 
     abbrev board_answer : Answer
-    board_answer = answer_of moves.ports i
+    board_answer = answer_of moves.answers i
 
     abbrev head_answer : Answer
-    head_answer = answer_of sends.ports j
+    head_answer = answer_of sends.answers j
 
     abbrev b : ℕ
     b = services_of (choice_at (board_choices u) i) j
@@ -336,8 +336,8 @@ module _ {u : Switch} {store : List ℕ} (ok : Sound u store) where
         (b i j hi hj) (h i j hi hj)
         (queue_at u (flow_of n i j)) (get_or (slot_moves u store).queues (flow_of n i j) no_queue)
         (point_at u (flow_of n i j)) (get_or (slot_moves u store).crosspoints (flow_of n i j) no_point) (get_or (slot_sends u store).crosspoints (flow_of n i j) no_point)
-        (cells_with j (answer_of (slot_moves u store).ports i)) (cells_with i (answer_of (slot_sends u store).ports j))
-        (empties j (answer_of (slot_moves u store).ports i)) (empties i (answer_of (slot_sends u store).ports j))
+        (cells_with j (answer_of (slot_moves u store).answers i)) (cells_with i (answer_of (slot_sends u store).answers j))
+        (empties j (answer_of (slot_moves u store).answers i)) (empties i (answer_of (slot_sends u store).answers j))
     flow_slot =
         record {
           some_slot = ok.plan.some_slot;
