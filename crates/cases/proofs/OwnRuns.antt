@@ -3,7 +3,7 @@ use Prim.Native.Nat.{ℕ}
 use mathlib.Core.Path.{◌≡◌, refl}
 use mathlib.Core.Bool.{Bool, true, false, false≢true, ◌&&◌}
 use mathlib.Core.List.{List, [], ◌∷◌}
-use Rattle.refusal.specs.declared.Verdict.TheVariants.{Accepted}
+use Rattle.std.specs.Prelude.{Ok}
 use Rattle.plan.proofs.BelowLaws.{and_true}
 use Rattle.runs.specs.Event.{Call}
 use Rattle.runs.specs.Event.Lent.{own, other}
@@ -34,7 +34,7 @@ pub own_calls : (cs : List Call) → are_own cs ≡ true → AllOwn cs
 own_calls [] e = tt
 own_calls (c ∷ cs) e = let both = and_true (is_own c) (are_own cs) e in (own_call c both.0, own_calls cs both.1)
 
-unfoldable pub own_run : (n t : ℕ) (rates : List ℕ) (calls : List Call) → (started n t rates).verdict ≡ Accepted → are_own calls ≡ true → Run
+unfoldable pub own_run : (n t : ℕ) (rates : List ℕ) (calls : List Call) → (started n t rates).verdict ≡ Ok tt → are_own calls ≡ true → Run
 unfolding run_of
 own_run n t rates calls accepted all =
     record {

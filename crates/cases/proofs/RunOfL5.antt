@@ -5,7 +5,7 @@ use mathlib.Core.Path.{◌≡◌, refl, sym}
 use mathlib.Core.List.{List, [], ◌∷◌, ◌++◌}
 use native.Mathlib.Omega.{arith}
 use lib.ListN.{length, take-append-drop}
-use Rattle.refusal.specs.declared.Verdict.TheVariants.{Accepted}
+use Rattle.std.specs.Prelude.{Ok}
 use Rattle.plan.specs.Below.{list_below}
 use Rattle.plan.specs.Lines.{row_sum, column_sum}
 use Rattle.plan.specs.Range.{ports_in_range, frame_in_range}
@@ -42,7 +42,7 @@ use Rattle.cases.specs.Look.{store_of, started, run_of}
 use Rattle.cases.specs.Table.{l5_rates, l5_first, l5_second, l5_before, l5_frame, l5_next, l5_run, l5_early, l5_late}
 use Rattle.cases.proofs.OwnRuns.{own_run}
 
-start_accepted : (started 2 4 l5_rates).verdict ≡ Accepted
+start_accepted : (started 2 4 l5_rates).verdict ≡ Ok tt
 unfolding start_of start_verdict accept_of ports_in_range frame_in_range row_sum column_sum depth_in_range store_fits
 start_accepted = refl
 
@@ -81,8 +81,8 @@ there = refl
 record Computed : Type 0 where
   old_rate : HasRate 0 0 1 l5_early
   new_rate : HasRate 0 0 3 l5_late
-  first_accepted : first.verdict ≡ Accepted
-  second_accepted : second.verdict ≡ Accepted
+  first_accepted : first.verdict ≡ Ok tt
+  second_accepted : second.verdict ≡ Ok tt
   first_after_slot_0 : first.state.slot ≡ 1
 
 computed : Computed

@@ -1,9 +1,9 @@
 -- The shares of demand 3 are reached: each by a run in the sense of the promise, in a stretch that is computed.
 use Prim.Native.Nat.{ℕ}
-use mathlib.Core.Path.{◌≡◌, refl, sym}
+use mathlib.Core.Path.{◌≡◌, refl}
 use mathlib.Core.List.{List, ◌++◌}
 use lib.ListN.{length, take, drop, take-append-drop}
-use Rattle.refusal.specs.declared.Verdict.TheVariants.{Accepted}
+use Rattle.std.specs.Prelude.{Ok}
 use Rattle.plan.specs.Below.{list_below}
 use Rattle.plan.specs.Lines.{row_sum, column_sum}
 use Rattle.plan.specs.Range.{ports_in_range, frame_in_range}
@@ -37,7 +37,7 @@ use Rattle.cases.proofs.OwnRuns.{own_run}
 in_three : (k m : ℕ) (es : List Event) → es ≡ take k es ++ (take m (drop k es) ++ drop m (drop k es))
 in_three k m es = rw (take-append-drop m (drop k es), take-append-drop k es) refl
 
-starts : ((started 2 10 lower_rates).verdict ≡ Accepted) × ((started 2 6 upper_rates).verdict ≡ Accepted)
+starts : ((started 2 10 lower_rates).verdict ≡ Ok tt) × ((started 2 6 upper_rates).verdict ≡ Ok tt)
 unfolding start_of start_verdict accept_of ports_in_range frame_in_range row_sum column_sum depth_in_range store_fits
 starts = (refl, refl)
 

@@ -1,7 +1,7 @@
 -- What a case looks at: one port's choices, or a run of the switch, slot by slot.
 use Rattle.std.specs.Prelude.{ℕ, suc, ◌*◌, Bool, cond, List, [], ◌∷◌, map, eqb, get_or, replicate}
 use Rattle.refusal.specs.Chain.{if_accepted}
-use Rattle.refusal.specs.declared.Verdict.{Verdict}
+use Rattle.refusal.specs.Verdict.{Verdict}
 use Rattle.plan.specs.Range.{most_ports}
 use Rattle.plan.specs.Lines.{flow_of}
 use Rattle.planpair.specs.Rates.{rate_at}

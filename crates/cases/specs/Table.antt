@@ -1,9 +1,8 @@
 -- "Cases with a star make up one table, proved of the specification by a single theorem". Each line has what the
 -- definitions compute, and what the scope or a request (L3 to L5) says; its text of the case stands over it. Two runs more show
 -- that the shares of demand 3 are reached.
-use Rattle.std.specs.Prelude.{ℕ, ◌≡◌, List, [], ◌∷◌, ◌++◌, length, take, drop, replicate}
+use Rattle.std.specs.Prelude.{ℕ, ◌≡◌, List, [], ◌∷◌, ◌++◌, length, take, drop, replicate, Ok}
 use Rattle.refusal.specs.Number.{verdict_number_of}
-use Rattle.refusal.specs.declared.Verdict.TheVariants.{Accepted}
 use Rattle.plan.specs.Below.{list_below}
 use Rattle.plan.specs.Accept.{accept_of}
 use Rattle.regulator.specs.Outcome.{Outcome, outcome}
@@ -129,7 +128,7 @@ l5_late = drop (length l5_frame) l5_run
 
 abbrev pub l5 : List Line
 l5 =
-    (load_verdicts l5_run is (Accepted ∷ Accepted ∷ []))
+    (load_verdicts l5_run is (Ok tt ∷ Ok tt ∷ []))
     ∷ (rate_by_slot 0 0 l5_early is (1 ∷ 1 ∷ 1 ∷ 1 ∷ []))
     ∷ (rate_by_slot 0 0 l5_late is (3 ∷ 3 ∷ 3 ∷ 3 ∷ []))
     ∷ (input_serves 0 0 l5_run is (0 ∷ 4 ∷ 6 ∷ 7 ∷ []))
@@ -192,21 +191,21 @@ abbrev scaled : Outcome
 scaled = scale_of 3 10 (row3 4 5 6 ++ row3 3 5 5 ++ row3 2 1 6) (replicate 9 0)
 
 abbrev pub c4 : List Line
-c4 = (scaled is outcome Accepted (row3 2 3 3 ++ row3 2 3 2 ++ row3 2 0 3)) ∷ []
+c4 = (scaled is outcome (Ok tt) (row3 2 3 3 ++ row3 2 3 2 ++ row3 2 0 3)) ∷ []
 
 -- C5* boosted: 4 3 3, 2 6 2, 4 1 5. "C5 is period 0."
 abbrev boosted_in : ℕ → Outcome
 boosted_in p = boost_of 3 10 p scaled.list (replicate 9 0)
 
 abbrev pub c5 : List Line
-c5 = (boosted_in 0 is outcome Accepted (row3 4 3 3 ++ row3 2 6 2 ++ row3 4 1 5)) ∷ []
+c5 = (boosted_in 0 is outcome (Ok tt) (row3 4 3 3 ++ row3 2 6 2 ++ row3 4 1 5)) ∷ []
 
 -- L3. C4's plan boosted, rows after one another: period 1: 2 5 3, 2 4 4, 6 1 3; period 2: 2 3 5, 5 3 2, 3 4 3; period 3 as
 -- period 0.
 abbrev pub l3 : List Line
 l3 =
-    (boosted_in 1 is outcome Accepted (row3 2 5 3 ++ row3 2 4 4 ++ row3 6 1 3))
-    ∷ (boosted_in 2 is outcome Accepted (row3 2 3 5 ++ row3 5 3 2 ++ row3 3 4 3))
+    (boosted_in 1 is outcome (Ok tt) (row3 2 5 3 ++ row3 2 4 4 ++ row3 6 1 3))
+    ∷ (boosted_in 2 is outcome (Ok tt) (row3 2 3 5 ++ row3 5 3 2 ++ row3 3 4 3))
     ∷ (boosted_in 3 is boosted_in 0)
     ∷ []
 
@@ -246,8 +245,8 @@ abbrev pub l3_last : List Line
 l3_last =
     (list_below (diagonal_in 7 4294967290) 7 is (5 ∷ 6 ∷ 0 ∷ 1 ∷ 2 ∷ 3 ∷ 4 ∷ []))
     ∷ (list_below (diagonal_in 7 4294967295) 7 is (3 ∷ 4 ∷ 5 ∷ 6 ∷ 0 ∷ 1 ∷ 2 ∷ []))
-    ∷ (boost_of 7 6 4294967290 seven (replicate 49 0) is outcome Accepted five_first)
-    ∷ (boost_of 7 6 4294967295 seven (replicate 49 0) is outcome Accepted three_first)
+    ∷ (boost_of 7 6 4294967290 seven (replicate 49 0) is outcome (Ok tt) five_first)
+    ∷ (boost_of 7 6 4294967295 seven (replicate 49 0) is outcome (Ok tt) three_first)
     ∷ []
 
 -- C6* N = 1, T = 1, rate 1: served every slot.
@@ -268,7 +267,7 @@ c7_run = run_of 2 4 (row2 0 0 ++ row2 0 0) (replicate 4 (step own))
 
 abbrev pub c7 : List Line
 c7 =
-    (accept_of 2 4 (row2 0 0 ++ row2 0 0) is Accepted)
+    (accept_of 2 4 (row2 0 0 ++ row2 0 0) is Ok tt)
     ∷ (input_by_slot 0 c7_run is (Idle ∷ Idle ∷ Idle ∷ Idle ∷ []))
     ∷ (input_by_slot 1 c7_run is (Idle ∷ Idle ∷ Idle ∷ Idle ∷ []))
     ∷ (output_by_slot 0 c7_run is (Idle ∷ Idle ∷ Idle ∷ Idle ∷ []))
@@ -278,7 +277,7 @@ c7 =
 -- C8* T = 3: row 1 2 within, row 2 2 refused 4.
 abbrev pub c8 : List Line
 c8 =
-    (accept_of 2 3 (row2 1 2 ++ row2 0 0) is Accepted)
+    (accept_of 2 3 (row2 1 2 ++ row2 0 0) is Ok tt)
     ∷ (verdict_number_of (accept_of 2 3 (row2 2 2 ++ row2 0 0)) is 4)
     ∷ []
 

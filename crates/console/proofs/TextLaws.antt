@@ -7,8 +7,8 @@ use lib.ListN.{length, take, drop, length-append, length-drop, length-take, drop
 use lib.Seq.{take_all, take-length, take-append_seam, take-append-add, drop-append_seam, drop-append-add, drop-drop, length-take-le}
 use Rattle.refusal.specs.Chain.{if_accepted}
 use Rattle.refusal.specs.Number.{verdict_number_of}
-use Rattle.refusal.specs.declared.Verdict.{Verdict}
-use Rattle.refusal.specs.declared.Verdict.TheVariants.{Accepted, Refused}
+use Rattle.refusal.specs.Verdict.{Verdict}
+use Rattle.std.specs.Prelude.{Ok, Err}
 use Rattle.console.specs.Text.{HasRoom, Written}
 use Rattle.console.specs.Refused.{refusal_line_of, refusal_room}
 use Rattle.console.proofs.DigitLaws.{digits_within}
@@ -108,6 +108,6 @@ unfolding refusal_line_of
 refusal_short v = simp length-append (omega (arith, digits_within 20 (verdict_number_of v)))
 
 -- one text where a call was accepted, and another where it was refused
-pub either_short : (k : ℕ) (v : Verdict) (x y : List ℕ) → (v ≡ Accepted → length x ≤ k) → length y ≤ k → length (if_accepted v x y) ≤ k
-either_short k Accepted x y hx hy = hx refl
-either_short k (Refused r) x y hx hy = hy
+pub either_short : (k : ℕ) (v : Verdict) (x y : List ℕ) → (v ≡ Ok tt → length x ≤ k) → length y ≤ k → length (if_accepted v x y) ≤ k
+either_short k (Ok _) x y hx hy = hx refl
+either_short k (Err r) x y hx hy = hy

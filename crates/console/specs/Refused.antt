@@ -1,7 +1,7 @@
 -- The line of a refusal: "prints "refused", a space and its number", and "each line ends in LF".
 use Rattle.std.specs.Prelude.{ℕ, ◌+◌, List, [], ◌∷◌, ◌++◌}
 use Rattle.refusal.specs.Number.{verdict_number_of}
-use Rattle.refusal.specs.declared.Verdict.{Verdict}
+use Rattle.refusal.specs.Verdict.{Verdict}
 use Rattle.console.specs.Text.{decimal_of}
 
 -- "refused" and a space

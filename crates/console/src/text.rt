@@ -2,7 +2,7 @@
 ghost use Rattle.console.specs.Text.{decimal_of, HasRoom, Written};
 ghost use Rattle.console.specs.Refused.{refusal_line_of};
 
-use refusal::Verdict;
+use refusal::{Refusal, verdict_number};
 
 // Room for the line of a refusal: the word and a space, a number of 64 bits, LF.
 pub const REFUSAL_ROOM: usize = 8 + 20 + 1;
@@ -25,11 +25,11 @@ pub fn number(out: &mut [u8], at: usize, value: u64) -> usize
     put(out, at, &digits[..len])
 }
 
-pub fn refusal_line(out: &mut [u8], at: usize, verdict: Verdict) -> usize
+pub fn refusal_line(out: &mut [u8], at: usize, verdict: Result<(), Refusal>) -> usize
     requires { HasRoom out.old at (refusal_line_of verdict) }
     ensures { Written out.old at (refusal_line_of verdict) out.new result }
 {
     let number_at = put(out, at, b"refused ");
-    let end = number(out, number_at, verdict.number() as u64);
+    let end = number(out, number_at, u64::from(verdict_number(verdict)));
     put(out, end, b"\n")
 }

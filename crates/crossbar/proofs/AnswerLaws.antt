@@ -3,8 +3,8 @@ use Prim.Native.Nat.{ℕ}
 use mathlib.Core.List.{List}
 use lib.ListN.{length}
 use Rattle.refusal.specs.Chain.{if_accepted}
-use Rattle.refusal.specs.declared.Verdict.{Verdict}
-use Rattle.refusal.specs.declared.Verdict.TheVariants.{Accepted, Refused}
+use Rattle.refusal.specs.Verdict.{Verdict}
+use Rattle.std.specs.Prelude.{Ok, Err}
 use Rattle.fabric.specs.Answer.{answer_of, all_idle}
 use Rattle.side.specs.Choices.{choice_at, ChoosesPort}
 use Rattle.fabric.specs.declared.flow.Answer.{Answer}
@@ -24,8 +24,8 @@ heads_choose s p = choices_name _ s.fabric.heads s.running.frame s.slot s.runnin
 
 -- the answers of an accepted step, and of a refused one, where all ports idle
 replied : (v : Verdict) (answers : List Answer) (p : ℕ) → NamesPort (answer_of answers p) → NamesPort (answer_of (if_accepted v answers all_idle) p)
-replied Accepted answers p h = h
-replied (Refused r) answers p h = idle_names p
+replied (Ok _) answers p h = h
+replied (Err r) answers p h = idle_names p
 
 module _ (s : Switch) (store : List ℕ) (p : ℕ) where
   pub step_moves_name : NamesPort (answer_of (step_of s store).moves p)

@@ -9,8 +9,8 @@ use lib.Dec.{ltb, leb}
 use lib.ListN.{length, set}
 use borrow.Author.Tests.{not-false, ltb-true, lt-ltb, leb-false, lt-leb}
 use Rattle.refusal.specs.declared.Refusal.{Refusal}
-use Rattle.refusal.specs.declared.Verdict.{Verdict}
-use Rattle.refusal.specs.declared.Verdict.TheVariants.{Accepted, Refused}
+use Rattle.refusal.specs.Verdict.{Verdict}
+use Rattle.std.specs.Prelude.{Ok, Err}
 use Rattle.refusal.proofs.ChainLaws.{refuse_passed}
 use Rattle.plan.specs.Range.{most_flows}
 use Rattle.plan.specs.Lines.{flow_of}
@@ -24,7 +24,7 @@ use Rattle.crossbar.specs.declared.state.Switch.{Switch}
 use Rattle.crossbar.proofs.StoreLaws.{store_length, store_fits_lem}
 use Rattle.crossbar.proofs.ValidLaws.{valid}
 
-pub can_arrive : (s : Switch) (len i j : ℕ) → arrive_verdict s len i j ≡ Accepted → CanArrive s len i j
+pub can_arrive : (s : Switch) (len i j : ℕ) → arrive_verdict s len i j ≡ Ok tt → CanArrive s len i j
 unfolding arrive_verdict
 can_arrive s len i j e =
     let n = s.running.ports in
@@ -41,7 +41,7 @@ can_arrive s len i j e =
       room = leb-false _ _ fourth.0;
     }
 
-pub arrives : (s : Switch) (len i j : ℕ) → CanArrive s len i j → arrive_verdict s len i j ≡ Accepted
+pub arrives : (s : Switch) (len i j : ℕ) → CanArrive s len i j → arrive_verdict s len i j ≡ Ok tt
 unfolding arrive_verdict
 arrives s len i j can =
     simp (
@@ -55,7 +55,7 @@ arrives s len i j can =
 -- The answer and the store, as the code leaves them, by its verdict v.
 module _ (s : Switch) (store : List ℕ) (i j cell : ℕ) {v : Verdict} (is : v ≡ arrive_verdict s (length store) i j) where
   -- `next` is the place of the ring that the cell goes to
-  pub arrive_accepted : {next : ℕ} → v ≡ Accepted →
+  pub arrive_accepted : {next : ℕ} → v ≡ Ok tt →
       let k = flow_of s.running.ports i j in
       let q = queue_at s k in
       next ≡ (q.place + q.count) % s.depth →
@@ -64,7 +64,7 @@ module _ (s : Switch) (store : List ℕ) (i j cell : ℕ) {v : Verdict} (is : v 
   arrive_accepted told place = rw (← is, told, place) refl
 
   -- a refused arrival leaves state and store as they were
-  pub arrive_refused : {r : Refusal} → v ≡ Refused r → Arrives s store i j cell (record { verdict = v; state = s }) store
+  pub arrive_refused : {r : Refusal} → v ≡ Err r → Arrives s store i j cell (record { verdict = v; state = s }) store
   unfolding arrive_of
   arrive_refused told = rw (← is, told) refl
 

@@ -6,7 +6,7 @@ use mathlib.Core.List.{List}
 use native.Mathlib.Omega.{arith}
 use lib.ListN.{length}
 use borrow.Author.Tests.{not-false}
-use Rattle.refusal.specs.declared.Verdict.TheVariants.{Accepted}
+use Rattle.std.specs.Prelude.{Ok}
 use Rattle.refusal.proofs.ChainLaws.{refuse_passed}
 use Rattle.plan.specs.Range.{most_ports, most_flows}
 use Rattle.plan.specs.Desk.{row_of}
@@ -85,7 +85,7 @@ module _
         }
 
 -- of a step that is answered as defined
-pub idles_only : (s : Switch) (store : List ℕ) (r : SlotReply) → Sized s → r ≡ step_of s store → r.verdict ≡ Accepted → IdlesOnly (takeover_of s) r
+pub idles_only : (s : Switch) (store : List ℕ) (r : SlotReply) → Sized s → r ≡ step_of s store → r.verdict ≡ Ok tt → IdlesOnly (takeover_of s) r
 unfolding step_of step_verdict
 idles_only s store r size is accepted =
     subst (IdlesOnly (takeover_of s)) (sym done)
@@ -94,7 +94,7 @@ idles_only s store r size is accepted =
     (ap length after.rates ∙ ruling_part s size s.running.ports rules.running.few_ports ∙ (rw after.ports refl))
     (rw after.fabric size.queues) (rw after.fabric size.points))
   where
-    verdict : step_verdict s (length store) ≡ Accepted
+    verdict : step_verdict s (length store) ≡ Ok tt
     verdict = sym (ap (λ (a : SlotReply). a.verdict) is) ∙ accepted
 
     rules : IsValid s

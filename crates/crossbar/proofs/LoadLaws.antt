@@ -8,8 +8,8 @@ use borrow.Author.Tests.{not-false, eqb-true, eq-eqb}
 use Rattle.refusal.specs.Chain.{refuse_if, and_then, if_accepted}
 use Rattle.refusal.specs.declared.Refusal.{Refusal}
 use Rattle.refusal.specs.declared.Refusal.TheVariants.{StateInvalid, PlanMismatch}
-use Rattle.refusal.specs.declared.Verdict.{Verdict}
-use Rattle.refusal.specs.declared.Verdict.TheVariants.{Accepted, Refused}
+use Rattle.refusal.specs.Verdict.{Verdict}
+use Rattle.std.specs.Prelude.{Ok, Err}
 use Rattle.refusal.proofs.ChainLaws.{refused_not_accepted, refuse_passed, then_passed}
 use Rattle.plan.specs.Accept.{accept_of}
 use Rattle.plan.proofs.BelowLaws.{and_true}
@@ -23,7 +23,7 @@ use Rattle.crossbar.specs.FormerLoad.{former_verdict, former_load, AsBefore}
 use Rattle.crossbar.specs.declared.state.Switch.{Switch}
 use Rattle.crossbar.specs.declared.state.Reply.{Reply}
 
-pub can_load : (s : Switch) (n t : ℕ) (rates : List ℕ) → load_verdict s n t rates ≡ Accepted → CanLoad s n t rates
+pub can_load : (s : Switch) (n t : ℕ) (rates : List ℕ) → load_verdict s n t rates ≡ Ok tt → CanLoad s n t rates
 unfolding load_verdict
 can_load s n t rates e =
     let first = refuse_passed (not (valid_of s)) _ _ e in
@@ -37,7 +37,7 @@ can_load s n t rates e =
       frame = eqb-true t _ same.1;
     }
 
-pub loads : (s : Switch) (n t : ℕ) (rates : List ℕ) → CanLoad s n t rates → load_verdict s n t rates ≡ Accepted
+pub loads : (s : Switch) (n t : ℕ) (rates : List ℕ) → CanLoad s n t rates → load_verdict s n t rates ≡ Ok tt
 unfolding load_verdict
 loads s n t rates can =
     simp (
@@ -48,16 +48,16 @@ loads s n t rates can =
     )
 
 -- An order that ended in one refusal more: where another verdict came of it, it comes without that refusal too.
-shorter : (a : Bool) (v : Verdict) (b w : Bool) (x y r : Refusal) → let former = refuse_if a x (and_then v (refuse_if b y (refuse_if w r Accepted))) in
-    (former ≡ Refused r → ⊥) → refuse_if a x (and_then v (refuse_if b y Accepted)) ≡ former
+shorter : (a : Bool) (v : Verdict) (b w : Bool) (x y r : Refusal) → let former = refuse_if a x (and_then v (refuse_if b y (refuse_if w r (Ok tt)))) in
+    (former ≡ Err r → ⊥) → refuse_if a x (and_then v (refuse_if b y (Ok tt))) ≡ former
 shorter true v b w x y r h = refl
-shorter false (Refused q) b w x y r h = refl
-shorter false Accepted true w x y r h = refl
-shorter false Accepted false true x y r h = absurd (h refl)
-shorter false Accepted false false x y r h = refl
+shorter false (Err q) b w x y r h = refl
+shorter false (Ok _) true w x y r h = refl
+shorter false (Ok _) false true x y r h = absurd (h refl)
+shorter false (Ok _) false false x y r h = refl
 
 module _ (s : Switch) (n t : ℕ) (rates : List ℕ) where
-  answered_before : (r : Refusal) → (former_verdict r s n t rates ≡ Refused r → ⊥) → load_of s n t rates ≡ former_load r s n t rates
+  answered_before : (r : Refusal) → (former_verdict r s n t rates ≡ Err r → ⊥) → load_of s n t rates ≡ former_load r s n t rates
   unfolding load_of load_verdict former_load former_verdict
   answered_before r h =
       let other = not (eqb n s.running.ports && eqb t s.running.frame) in
@@ -68,7 +68,7 @@ module _ (s : Switch) (n t : ℕ) (rates : List ℕ) where
   as_before =
       record {
         accepted = λ r e. answered_before r (λ told. refused_not_accepted r (sym told ∙ e));
-        refused = λ r q e other. answered_before r (λ told. let same : Refused q ≡ Refused r = sym e ∙ told in other cc);
+        refused = λ r q e other. answered_before r (λ told. let same : Err q ≡ Err r = sym e ∙ told in other cc);
       }
 
 -- "the later plan replaces the waiting one": of two plans laid into a state the second stands, and no trace of the first, also
@@ -78,34 +78,34 @@ waiting_twice s n t m u first second e = rw (e, overlaid_twice s.waiting.rates f
 
 -- after two loads that were accepted, the state is that of the second load alone
 pub load_twice : (s : Switch) (n t m u : ℕ) (first second : List ℕ)
-    → load_verdict s n t first ≡ Accepted → load_verdict (load_of s n t first).state m u second ≡ Accepted
+    → load_verdict s n t first ≡ Ok tt → load_verdict (load_of s n t first).state m u second ≡ Ok tt
     → load_of (load_of s n t first).state m u second ≡ load_of s m u second
 unfolding load_of
 load_twice s n t m u first second e f =
     let one = can_load s n t first e in
-    let later : load_verdict (with_waiting s n t first) m u second ≡ Accepted = rw e at f in
+    let later : load_verdict (with_waiting s n t first) m u second ≡ Ok tt = rw e at f in
     let two = can_load (with_waiting s n t first) m u second later in
     let alone = loads s m u second (record { valid = one.valid; plan = two.plan; ports = two.ports; frame = two.frame }) in
     rw (e, later, alone, waiting_twice s n t m u first second (one.ports ∙ sym two.ports)) refl
 
 -- What a reply that says "accepted" tells.
 
-pub load_told : (s : Switch) (n t : ℕ) (rates : List ℕ) {r : Reply} → r ≡ load_of s n t rates → r.verdict ≡ Accepted → load_verdict s n t rates ≡ Accepted
+pub load_told : (s : Switch) (n t : ℕ) (rates : List ℕ) {r : Reply} → r ≡ load_of s n t rates → r.verdict ≡ Ok tt → load_verdict s n t rates ≡ Ok tt
 unfolding load_of
 load_told s n t rates is e = sym (ap (λ (x : Reply). x.verdict) is) ∙ e
 
-pub load_state : (s : Switch) (n t : ℕ) (rates : List ℕ) → load_verdict s n t rates ≡ Accepted → (load_of s n t rates).state ≡ with_waiting s n t rates
+pub load_state : (s : Switch) (n t : ℕ) (rates : List ℕ) → load_verdict s n t rates ≡ Ok tt → (load_of s n t rates).state ≡ with_waiting s n t rates
 unfolding load_of
 load_state s n t rates e = rw e refl
 
 -- The answer, as the code puts it together from its verdict v.
 module _ (s : Switch) (n t : ℕ) (rates : List ℕ) {v : Verdict} (is : v ≡ load_verdict s n t rates) where
-  pub load_accepted : {laid : List ℕ} → v ≡ Accepted → laid ≡ overlaid s.waiting.rates rates (n * n)
+  pub load_accepted : {laid : List ℕ} → v ≡ Ok tt → laid ≡ overlaid s.waiting.rates rates (n * n)
       → ◌≡◌ {A = Reply} (record { verdict = v; state = with_plans s s.running (record { ports = n; frame = t; rates = laid }) 1 }) (load_of s n t rates)
   unfolding load_of
   load_accepted told laid = rw (laid, ← is, told) refl
 
   -- a refused load leaves the state as it was
-  pub load_refused : {r : Refusal} → v ≡ Refused r → ◌≡◌ {A = Reply} (record { verdict = v; state = s }) (load_of s n t rates)
+  pub load_refused : {r : Refusal} → v ≡ Err r → ◌≡◌ {A = Reply} (record { verdict = v; state = s }) (load_of s n t rates)
   unfolding load_of
   load_refused told = rw (← is, told) refl

@@ -6,8 +6,8 @@ use mathlib.Core.List.{List}
 use lib.ListN.{length, replicate}
 use borrow.Author.Tests.{not-false}
 use Rattle.refusal.specs.declared.Refusal.{Refusal}
-use Rattle.refusal.specs.declared.Verdict.{Verdict}
-use Rattle.refusal.specs.declared.Verdict.TheVariants.{Accepted, Refused}
+use Rattle.refusal.specs.Verdict.{Verdict}
+use Rattle.std.specs.Prelude.{Ok, Err}
 use Rattle.refusal.proofs.ChainLaws.{refuse_passed, then_passed}
 use Rattle.plan.specs.Range.{most_flows}
 use Rattle.plan.specs.Accept.{accept_of, IsPlan}
@@ -23,7 +23,7 @@ use Rattle.planpair.proofs.RateLaws.{laid_rates}
 use Rattle.crossbar.proofs.StoreLaws.{store_length, store_fits_lem}
 use Rattle.crossbar.proofs.ValidLaws.{depth_range, depth_in}
 
-pub can_start : (n t : ℕ) (rates : List ℕ) (depth len : ℕ) → start_verdict n t rates depth len ≡ Accepted → CanStart n t rates depth len
+pub can_start : (n t : ℕ) (rates : List ℕ) (depth len : ℕ) → start_verdict n t rates depth len ≡ Ok tt → CanStart n t rates depth len
 unfolding start_verdict
 can_start n t rates depth len e =
     let first = then_passed (accept_of n t rates) _ e in
@@ -37,7 +37,7 @@ can_start n t rates depth len e =
       store = store_length n depth len (not-false _ third.0);
     }
 
-pub starts : (n t : ℕ) (rates : List ℕ) (depth len : ℕ) → CanStart n t rates depth len → start_verdict n t rates depth len ≡ Accepted
+pub starts : (n t : ℕ) (rates : List ℕ) (depth len : ℕ) → CanStart n t rates depth len → start_verdict n t rates depth len ≡ Ok tt
 unfolding start_verdict
 starts n t rates depth len can =
     simp (
@@ -48,13 +48,13 @@ starts n t rates depth len can =
 
 -- The answer, as the code puts it together from its verdict v and a fresh state.
 module _ (n t : ℕ) (rates : List ℕ) (depth : ℕ) (store : List ℕ) {v : Verdict} {fresh : Switch} (is : v ≡ start_verdict n t rates depth (length store)) where
-  pub start_accepted : {laid : List ℕ} → v ≡ Accepted → laid ≡ overlaid (replicate most_flows 0) rates (n * n)
+  pub start_accepted : {laid : List ℕ} → v ≡ Ok tt → laid ≡ overlaid (replicate most_flows 0) rates (n * n)
       → fresh ≡ fresh_with (record { ports = n; frame = t; rates = laid }) depth → ◌≡◌ {A = Reply} (record { verdict = v; state = fresh }) (start_of n t rates depth store)
   unfolding start_of
   start_accepted told laid made = rw (made, laid, ← is, told) refl
 
   -- the state of a refused start is all 0
-  pub start_refused : {r : Refusal} {none : Plan} → v ≡ Refused r → none ≡ no_plan → fresh ≡ fresh_with none 0
+  pub start_refused : {r : Refusal} {none : Plan} → v ≡ Err r → none ≡ no_plan → fresh ≡ fresh_with none 0
       → ◌≡◌ {A = Reply} (record { verdict = v; state = fresh }) (start_of n t rates depth store)
   unfolding start_of
   start_refused told none made = rw (made, none, ← is, told) refl

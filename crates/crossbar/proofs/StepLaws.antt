@@ -10,8 +10,8 @@ use lib.Dec.{eqb}
 use lib.ListN.{length, take}
 use lib.Seq.{length-take-le}
 use borrow.Author.Tests.{eq-eqb, ne_eqb}
-use Rattle.refusal.specs.declared.Verdict.{Verdict}
-use Rattle.refusal.specs.declared.Verdict.TheVariants.{Accepted}
+use Rattle.refusal.specs.Verdict.{Verdict}
+use Rattle.std.specs.Prelude.{Ok}
 use Rattle.plan.specs.Range.{most_ports, most_flows}
 use Rattle.plan.specs.Desk.{row_of, desk_of}
 use Rattle.plan.specs.declared.Plan.{Plan}
@@ -316,7 +316,7 @@ module _
                   roomy : has_room (takeover_of s) ≡ true
                   roomy = sym (room_is s size a.rules store boards heads (by_rows' a)) ∙ (rw (← all a) (sym room-test ∙ a.roomy))
 
-                  told : verdict ≡ Accepted
+                  told : verdict ≡ Ok tt
                   told =
                       let v : valid? ≡ true = j.valid_is ∙ a.fit.passed in
                       let f : fits ≡ true = j.fits_is ∙ (rw (v, a.fit.fitting) refl) in

@@ -1,10 +1,9 @@
 -- "An arrival puts one cell into a queue between slots." "Only an accepted arrival writes the store, in that one place."
 -- Order: 12, 7, 10, 11.
-use Rattle.std.specs.Prelude.{ℕ, ◌+◌, ◌*◌, ◌<◌, ◌≡◌, true, not, ◌&&◌, List, ltb, leb, length, set}
+use Rattle.std.specs.Prelude.{ℕ, ◌+◌, ◌*◌, ◌<◌, ◌≡◌, true, not, ◌&&◌, List, ltb, leb, length, set, Ok}
 use Rattle.refusal.specs.Chain.{refuse_if, if_accepted}
 use Rattle.refusal.specs.declared.Refusal.TheVariants.{StateInvalid, StoreLength, NoSuchPort, QueueFull}
-use Rattle.refusal.specs.declared.Verdict.{Verdict}
-use Rattle.refusal.specs.declared.Verdict.TheVariants.{Accepted}
+use Rattle.refusal.specs.Verdict.{Verdict}
 use Rattle.plan.specs.Lines.{flow_of}
 use Rattle.crossbar.specs.State.{queue_at, store_fits}
 use Rattle.fabric.specs.Flow.{cell_place}
@@ -34,7 +33,7 @@ arrive_verdict s len i j =
     (refuse_if (not (store_fits n s.depth len)) StoreLength
     (refuse_if (not (ltb i n && ltb j n)) NoSuchPort
     (refuse_if (leb s.depth (queue_at s (flow_of n i j)).count) QueueFull
-    Accepted)))
+    (Ok tt))))
 
 -- When an arrival is accepted. proofs/ArriveLaws.antt has that it is then, and only then.
 pub record CanArrive (s : Switch) (len i j : ℕ) : Type 0 where

@@ -1,10 +1,9 @@
 -- "A load puts an accepted plan in waiting", and "the later plan replaces the waiting one" (L5). Order: 12, 1 to 5, 8. Only
 -- the waiting plan's N, T and rates for ports below N are written.
-use Rattle.std.specs.Prelude.{ℕ, ◌*◌, ◌≡◌, true, not, ◌&&◌, List, eqb}
+use Rattle.std.specs.Prelude.{ℕ, ◌*◌, ◌≡◌, true, not, ◌&&◌, List, eqb, Ok}
 use Rattle.refusal.specs.Chain.{refuse_if, and_then, if_accepted}
 use Rattle.refusal.specs.declared.Refusal.TheVariants.{StateInvalid, PlanMismatch}
-use Rattle.refusal.specs.declared.Verdict.{Verdict}
-use Rattle.refusal.specs.declared.Verdict.TheVariants.{Accepted}
+use Rattle.refusal.specs.Verdict.{Verdict}
 use Rattle.plan.specs.Accept.{accept_of, IsPlan}
 use Rattle.plan.specs.declared.Plan.{Plan}
 use Rattle.crossbar.specs.Valid.{valid_of}
@@ -28,7 +27,7 @@ load_verdict s n t rates =
     refuse_if (not (valid_of s)) StateInvalid
     (and_then (accept_of n t rates)
     (refuse_if (not (eqb n s.running.ports && eqb t s.running.frame)) PlanMismatch
-    Accepted))
+    (Ok tt)))
 
 -- When a load is accepted. proofs/LoadLaws.antt has that it is then, and only then.
 pub record CanLoad (s : Switch) (n t : ℕ) (rates : List ℕ) : Type 0 where

@@ -1,10 +1,9 @@
 -- "A fresh start holds the given plan as the running one and Q, and 0 or "none waits" everywhere else; it doesn't write
 -- the store." Order: 1 to 7.
-use Rattle.std.specs.Prelude.{ℕ, ◌*◌, ◌≤◌, ◌≡◌, not, List, length, replicate}
+use Rattle.std.specs.Prelude.{ℕ, ◌*◌, ◌≤◌, ◌≡◌, not, List, length, replicate, Ok}
 use Rattle.refusal.specs.Chain.{refuse_if, and_then, if_accepted}
 use Rattle.refusal.specs.declared.Refusal.TheVariants.{DepthOutOfRange, StoreLength}
-use Rattle.refusal.specs.declared.Verdict.{Verdict}
-use Rattle.refusal.specs.declared.Verdict.TheVariants.{Accepted}
+use Rattle.refusal.specs.Verdict.{Verdict}
 use Rattle.plan.specs.Range.{most_ports, most_flows}
 use Rattle.plan.specs.Accept.{accept_of, IsPlan}
 use Rattle.plan.specs.NoPlan.{no_plan}
@@ -53,7 +52,7 @@ start_verdict n t rates depth len =
     and_then (accept_of n t rates)
     (refuse_if (not (depth_in_range depth)) DepthOutOfRange
     (refuse_if (not (store_fits n depth len)) StoreLength
-    Accepted))
+    (Ok tt)))
 
 -- When a start is accepted. proofs/StartLaws.antt has that it is then, and only then.
 pub record CanStart (n t : ℕ) (rates : List ℕ) (depth len : ℕ) : Type 0 where

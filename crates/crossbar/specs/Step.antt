@@ -1,10 +1,9 @@
 -- One slot: takeover, choices, moves, sends, end of slot. Order: 12, 7, 13; "number 13 looks at the running plan after a
 -- takeover". "state, store and written lists are unchanged" by a refusal; "every port of a refused step reads idle".
-use Rattle.std.specs.Prelude.{ℕ, ◌+◌, ◌<◌, ◌≡◌, Bool, false, not, cond, ◌&&◌, List, eqb, length, get_or}
+use Rattle.std.specs.Prelude.{ℕ, ◌+◌, ◌<◌, ◌≡◌, Bool, false, not, cond, ◌&&◌, List, eqb, length, get_or, Ok}
 use Rattle.refusal.specs.Chain.{refuse_if, if_accepted}
 use Rattle.refusal.specs.declared.Refusal.TheVariants.{StateInvalid, StoreLength, CrosspointFull}
-use Rattle.refusal.specs.declared.Verdict.{Verdict}
-use Rattle.refusal.specs.declared.Verdict.TheVariants.{Accepted}
+use Rattle.refusal.specs.Verdict.{Verdict}
 use Rattle.plan.specs.Desk.{row_of}
 use Rattle.multiplexer.specs.Choose.{eligible_at}
 use Rattle.multiplexer.specs.Window.{column_of}
@@ -72,7 +71,7 @@ after_slot s store =
 
 -- what an accepted step answers
 abbrev pub slot_reply : Switch → List ℕ → SlotReply
-slot_reply s store = record { verdict = Accepted; state = after_slot s store; moves = (slot_moves s store).answers; sends = (slot_sends s store).answers }
+slot_reply s store = record { verdict = Ok tt; state = after_slot s store; moves = (slot_moves s store).answers; sends = (slot_sends s store).answers }
 
 -- what a refused step answers
 abbrev pub refused_reply : Switch → Verdict → SlotReply
@@ -84,7 +83,7 @@ verdict_by valid fits room =
     refuse_if (not valid) StateInvalid
     (refuse_if (not fits) StoreLength
     (refuse_if (not room) CrosspointFull
-    Accepted))
+    (Ok tt)))
 
 unfoldable pub step_verdict : Switch → ℕ → Verdict
 step_verdict s len = verdict_by (valid_of s) (store_fits s.running.ports s.depth len) (has_room (takeover_of s))

@@ -6,32 +6,32 @@ use crate::state::{Reply, Switch};
 use crate::valid::store_fits;
 use fabric::flow::Queue;
 use fabric::places::ring_place;
-use refusal::{Refusal, Verdict};
+use refusal::Refusal;
 
 impl Switch {
-    fn arrive_verdict(self, len: usize, i: usize, j: usize) -> Verdict
+    fn arrive_verdict(self, len: usize, i: usize, j: usize) -> Result<(), Refusal>
         ensures { result ≡ arrive_verdict self len i j }
     {
         if !self.is_valid() {
-            return Verdict::Refused(Refusal::StateInvalid);
+            return Err(Refusal::StateInvalid);
         }
         let n = self.running.ports;
         let depth = self.depth;
         if !store_fits(n, depth, len) {
-            return Verdict::Refused(Refusal::StoreLength);
+            return Err(Refusal::StoreLength);
         }
         if n <= i {
-            return Verdict::Refused(Refusal::NoSuchPort);
+            return Err(Refusal::NoSuchPort);
         }
         if n <= j {
-            return Verdict::Refused(Refusal::NoSuchPort);
+            return Err(Refusal::NoSuchPort);
         }
         let fabric = self.fabric;
         let queue = fabric.queues[i * n + j];
         if depth <= queue.count as usize {
-            return Verdict::Refused(Refusal::QueueFull);
+            return Err(Refusal::QueueFull);
         }
-        Verdict::Accepted
+        Ok(())
     }
 
     // Put a cell of board i for head j into its queue.
@@ -39,7 +39,7 @@ impl Switch {
         ensures { Arrives self store.old i j cell result store.new }
     {
         let verdict = self.arrive_verdict(store.len(), i, j);
-        let Verdict::Accepted = verdict else {
+        let Ok(()) = verdict else {
             return Reply {
                 state: self,
                 verdict: verdict,

@@ -6,26 +6,24 @@ use crate::state::{Reply, Switch};
 use plan::Plan;
 use plan::acceptance::accept;
 use planpair::rates::overlay;
-use refusal::{Refusal, Verdict};
+use refusal::Refusal;
 
 impl Switch {
-    fn load_verdict(self, n: usize, t: u32, rates: &[u16]) -> Verdict
+    #[tactic(auto, unfolding(crate::specs::Load::load_verdict))]
+    fn load_verdict(self, n: usize, t: u32, rates: &[u16]) -> Result<(), Refusal>
         ensures { result ≡ load_verdict self n t rates.now }
     {
         if !self.is_valid() {
-            return Verdict::Refused(Refusal::StateInvalid);
+            return Err(Refusal::StateInvalid);
         }
-        let verdict = accept(n, t, rates);
-        let Verdict::Accepted = verdict else {
-            return verdict;
-        };
+        accept(n, t, rates)?;
         if n != self.running.ports {
-            return Verdict::Refused(Refusal::PlanMismatch);
+            return Err(Refusal::PlanMismatch);
         }
         if t != self.running.frame {
-            return Verdict::Refused(Refusal::PlanMismatch);
+            return Err(Refusal::PlanMismatch);
         }
-        Verdict::Accepted
+        Ok(())
     }
 
     // Put a plan in waiting, in the place of one that waits already.
@@ -33,7 +31,7 @@ impl Switch {
         ensures { Loads self n t rates.now result }
     {
         let verdict = self.load_verdict(n, t, rates);
-        let Verdict::Accepted = verdict else {
+        let Ok(()) = verdict else {
             return Reply {
                 state: self,
                 verdict: verdict,

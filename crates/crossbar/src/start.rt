@@ -11,7 +11,7 @@ use plan::acceptance::accept;
 use plan::range::{MOST_FLOWS, MOST_PORTS};
 use plan::{Plan, no_plan};
 use planpair::rates::overlay;
-use refusal::{Refusal, Verdict};
+use refusal::Refusal;
 
 // A state that runs a plan, with no cell and no service.
 fn fresh_with(plan: Plan, depth: usize) -> Switch
@@ -45,20 +45,18 @@ fn fresh_with(plan: Plan, depth: usize) -> Switch
 }
 
 // Number 1 to 5 by the plan, then 6 and 7.
-fn start_verdict(n: usize, t: u32, rates: &[u16], depth: usize, len: usize) -> Verdict
+#[tactic(auto, unfolding(crate::specs::Start::start_verdict))]
+fn start_verdict(n: usize, t: u32, rates: &[u16], depth: usize, len: usize) -> Result<(), Refusal>
     ensures { result ≡ start_verdict n t rates.now depth len }
 {
-    let verdict = accept(n, t, rates);
-    let Verdict::Accepted = verdict else {
-        return verdict;
-    };
+    accept(n, t, rates)?;
     if !depth_in_range(depth) {
-        return Verdict::Refused(Refusal::DepthOutOfRange);
+        return Err(Refusal::DepthOutOfRange);
     }
     if !store_fits(n, depth, len) {
-        return Verdict::Refused(Refusal::StoreLength);
+        return Err(Refusal::StoreLength);
     }
-    Verdict::Accepted
+    Ok(())
 }
 
 // Start a switch of N ports with a plan and queues of Q cells in a store, which is not written.
@@ -66,7 +64,7 @@ pub fn start(n: usize, t: u32, rates: &[u16], depth: usize, store: &[u32]) -> Re
     ensures { Starts n t rates.now depth store.now result }
 {
     let verdict = start_verdict(n, t, rates, depth, store.len());
-    let Verdict::Accepted = verdict else {
+    let Ok(()) = verdict else {
         return Reply {
             state: fresh_with(no_plan(), 0),
             verdict: verdict,

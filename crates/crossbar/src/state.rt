@@ -3,7 +3,7 @@ use fabric::Fabric;
 use fabric::flow::Answer;
 use plan::Plan;
 use plan::range::MOST_PORTS;
-use refusal::Verdict;
+use refusal::Refusal;
 
 // What stands for ports from N up is neither looked at nor changed. `waits` is 0 where no plan waits; every other number says
 // that one does.
@@ -22,7 +22,7 @@ pub struct Switch {
 #[derive(Drop)]
 pub struct Reply {
     pub state: Switch,
-    pub verdict: Verdict,
+    pub verdict: Result<(), Refusal>,
 }
 
 // What a step answers: what each board moved, and what each head sent. Ports from N up, and every port of a refused
@@ -30,7 +30,7 @@ pub struct Reply {
 #[derive(Drop)]
 pub struct SlotReply {
     pub state: Switch,
-    pub verdict: Verdict,
+    pub verdict: Result<(), Refusal>,
     pub moves: [Answer; MOST_PORTS],
     pub sends: [Answer; MOST_PORTS],
 }

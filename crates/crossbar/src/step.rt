@@ -1,7 +1,7 @@
 // One slot of the switch. In a step that is refused no port acts: the slot's phases are the same, for 0 ports. With one way
 // through them the compiler copies the state no more than it has to.
 ghost use Rattle.std.specs.Prelude.{true, cond, ◌&&◌, ◌≡◌, ◌+◌, ◌*◌, ◌≤◌, eqb, length};
-ghost use Rattle.refusal.specs.declared.Verdict.TheVariants.{Accepted};
+ghost use Rattle.std.specs.Prelude.{Ok};
 ghost use Rattle.plan.specs.Range.{most_ports};
 ghost use Rattle.plan.specs.Flag.{is_set};
 ghost use Rattle.fabric.specs.Flow.{most_depth};
@@ -15,7 +15,7 @@ use crate::valid::store_fits;
 use fabric::moves::room_for_all;
 use plan::range::MOST_FLOWS;
 use planpair::takeover::{cleared, replaced};
-use refusal::{Refusal, Verdict};
+use refusal::Refusal;
 use side::choices::serve_all;
 use side::columns::transpose;
 
@@ -30,19 +30,19 @@ fn acting(n: usize, go: bool) -> usize
 }
 
 // 12, 7 and 13, in this order.
-fn verdict_by(valid: bool, fits: bool, room: bool) -> Verdict
+fn verdict_by(valid: bool, fits: bool, room: bool) -> Result<(), Refusal>
     ensures { result ≡ verdict_by valid fits room }
 {
     if !valid {
-        return Verdict::Refused(Refusal::StateInvalid);
+        return Err(Refusal::StateInvalid);
     }
     if !fits {
-        return Verdict::Refused(Refusal::StoreLength);
+        return Err(Refusal::StoreLength);
     }
     if !room {
-        return Verdict::Refused(Refusal::CrosspointFull);
+        return Err(Refusal::CrosspointFull);
     }
-    Verdict::Accepted
+    Ok(())
 }
 
 // Whether a valid state has a store of its length.
@@ -156,7 +156,7 @@ impl Switch {
     // One slot: the takeover of a waiting plan, the choices of all ports, the moves, the sends, and the slot's end.
     pub fn step(self, store: &[u32]) -> SlotReply
         ensures defined { Steps self store.now result }
-        ensures idles { result.verdict ≡ Accepted → IdlesOnly (takeover_of self) result }
+        ensures idles { result.verdict ≡ Ok tt → IdlesOnly (takeover_of self) result }
     {
         let valid = self.is_valid();
         let fits = fits_if_valid(valid, self.running.ports, self.depth, store.len());

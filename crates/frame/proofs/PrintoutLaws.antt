@@ -7,8 +7,8 @@ use native.Mathlib.Omega.{arith}
 use lib.ListN.{take, replicate}
 use Rattle.refusal.specs.Chain.{if_accepted}
 use Rattle.refusal.specs.declared.Refusal.{Refusal}
-use Rattle.refusal.specs.declared.Verdict.{Verdict}
-use Rattle.refusal.specs.declared.Verdict.TheVariants.{Accepted, Refused}
+use Rattle.refusal.specs.Verdict.{Verdict}
+use Rattle.std.specs.Prelude.{Ok, Err}
 use Rattle.plan.specs.Range.{most_ports}
 use Rattle.plan.specs.declared.Plan.{Plan}
 use Rattle.planfile.specs.Read.{read_of}
@@ -27,8 +27,8 @@ use Rattle.frame.specs.Printout.{header_of, slot_line_of, slot_lines_of, frame_p
 
 -- a text is the one where the call was accepted, and the other where it was refused
 pub record Decided (v : Verdict) (text accepted_text refused-text : List ℕ) : Type 0 where
-  pub accepted : v ≡ Accepted → text ≡ accepted_text
-  pub refused : {r : Refusal} → v ≡ Refused r → text ≡ refused-text
+  pub accepted : v ≡ Ok tt → text ≡ accepted_text
+  pub refused : {r : Refusal} → v ≡ Err r → text ≡ refused-text
 
 decided : (v : Verdict) (text x y : List ℕ) → text ≡ if_accepted v x y → Decided v text x y
 decided v text x y e = record { accepted = λ a. e ∙ rw a refl; refused = λ a. e ∙ rw a refl }
@@ -65,8 +65,8 @@ unfolding printout_of
 by_reading file r is = decided r.verdict _ _ _ (rw is refl)
 
 -- an accepted file has a plan that the program's arrays have room for
-pub few_ports : (file : List ℕ) (r : Reading) → r ≡ read_of file → r.verdict ≡ Accepted → r.plan.ports ≤ most_ports
-few_ports file r is = subst (λ (s : Reading). s.verdict ≡ Accepted → s.plan.ports ≤ most_ports) (sym is) (λ e. (accepted_plan file e).is_plan.few_ports)
+pub few_ports : (file : List ℕ) (r : Reading) → r ≡ read_of file → r.verdict ≡ Ok tt → r.plan.ports ≤ most_ports
+few_ports file r is = subst (λ (s : Reading). s.verdict ≡ Ok tt → s.plan.ports ≤ most_ports) (sym is) (λ e. (accepted_plan file e).is_plan.few_ports)
 
 -- what the program reads of a file is enough
 pub printout_cut : (file : List ℕ) → printout_of (take most_input file) ≡ printout_of file

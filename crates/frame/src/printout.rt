@@ -11,7 +11,6 @@ use crossbar::state::Switch;
 use plan::Plan;
 use plan::range::{MOST_FLOWS, MOST_PORTS, MOST_SLOTS};
 use planfile::read;
-use refusal::Verdict;
 
 // "slot", the names of inputs and outputs, LF. A port has at most two digits, and a slot four.
 const HEADER_ROOM: usize = 4 + MOST_PORTS * 5 + MOST_PORTS * 6 + 1;
@@ -39,7 +38,7 @@ fn slot_lines(
     for slot in 0..frame {
         let done = state.step(store);
         let verdict = done.verdict;
-        let Verdict::Accepted = verdict else {
+        let Ok(()) = verdict else {
             return refusal_line(out, at, verdict);
         };
         let boards = done.moves;
@@ -61,7 +60,7 @@ fn frame_printout(out: &mut [u8], plan: Plan) -> usize
     let store = &zeros[..n * n];
     let started = start(n, plan.frame, &rates[..n * n], 1, store);
     let verdict = started.verdict;
-    let Verdict::Accepted = verdict else {
+    let Ok(()) = verdict else {
         return refusal_line(out, 0, verdict);
     };
     let slots_at = header(out, 0, n);
@@ -75,7 +74,7 @@ pub fn printout(file: &[u8], out: &mut [u8; PRINTOUT_ROOM]) -> usize
 {
     let reading = read(file);
     let verdict = reading.verdict;
-    let Verdict::Accepted = verdict else {
+    let Ok(()) = verdict else {
         return refusal_line(out, 0, verdict);
     };
     let plan = reading.plan;

@@ -6,8 +6,8 @@ use mathlib.Core.List.{List, [], ◌∷◌, ◌++◌}
 use native.Mathlib.Nat.{lt_of_mul-lt-mul_right, zero-add}
 use native.Mathlib.Omega.{arith}
 use lib.ListN.{length, get_or}
-use Rattle.refusal.specs.declared.Verdict.{Verdict}
-use Rattle.refusal.specs.declared.Verdict.TheVariants.{Accepted, Refused}
+use Rattle.refusal.specs.Verdict.{Verdict}
+use Rattle.std.specs.Prelude.{Ok, Err}
 use Rattle.plan.specs.Lines.{flow_of}
 use Rattle.plan.specs.Accept.{IsPlan}
 use Rattle.plan.proofs.AcceptLaws.{accepts}
@@ -105,9 +105,9 @@ module _ (run : Run) (rates : List ℕ) (j : ℕ) (hj : j < run.ports) where
       after = known_next (stepped lent r) k h.0
 
       go : (v : Verdict) → r.verdict ≡ v → (head_record j es ≡ []) ⊎ IsPlan n T rates → (head_record j (stepped lent r ∷ es) ≡ []) ⊎ IsPlan n T rates
-      go Accepted e rest =
+      go (Ok _) e rest =
           inr (subst (IsPlan n T) (one.0 e) (subst₂ (λ (m t : ℕ). IsPlan m t (plan_rates r.state.running)) after.ports after.frame after.sound.plan))
-      go (Refused why) e rest = ⊎_elim (λ (none : head_record j es ≡ []). inl (rw e none)) inr rest
+      go (Err why) e rest = ⊎_elim (λ (none : head_record j es ≡ []). inl (rw e none)) inr rest
   plan_there s store (arrived lent p q cell r left ∷ es) k h one = plan_there _ _ es (known_next (arrived lent p q cell r left) k h.0) h.1 one.1
   plan_there s store (loaded m t new r ∷ es) k h one = plan_there _ _ es (known_next (loaded m t new r) k h.0) h.1 one.1
 

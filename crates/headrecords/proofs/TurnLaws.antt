@@ -5,8 +5,8 @@ use mathlib.Core.Bool.{Bool, true, false}
 use mathlib.Core.List.{List, [], ◌∷◌}
 use native.Mathlib.Omega.{arith}
 use lib.ListN.{length, get_or}
-use Rattle.refusal.specs.declared.Verdict.{Verdict}
-use Rattle.refusal.specs.declared.Verdict.TheVariants.{Accepted, Refused}
+use Rattle.refusal.specs.Verdict.{Verdict}
+use Rattle.std.specs.Prelude.{Ok, Err}
 use Rattle.planpair.specs.Rates.{plan_rates}
 use Rattle.multiplexer.specs.Serve.{serve_of}
 use Rattle.multiplexer.specs.Window.{column_of}
@@ -76,24 +76,24 @@ module _ {s : Switch} {store : List ℕ} (ok : Sound s store) (rates : List ℕ)
   step_turn lent list runs = go (step_verdict s (length list)) refl runs
     where
       go : (v : Verdict) → step_verdict s (length list) ≡ v → RunsIn rates (stepped lent (step_of s list)) → Here (stepped lent (step_of s list))
-      go Accepted e runs = rw e (ruled_turn lent list (rw e at (runs e)))
-      go (Refused r) e runs = rw e (quiet refl refl refl refl)
+      go (Ok _) e runs = rw e (ruled_turn lent list (rw e at (runs e)))
+      go (Err r) e runs = rw e (quiet refl refl refl refl)
 
   arrive_turn : (lent : Lent) (list : List ℕ) (p q cell : ℕ) → let a = arrive_of s list p q cell in Here (arrived lent p q cell a.reply a.store)
   unfolding arrive_of
   arrive_turn lent list p q cell = go (arrive_verdict s (length list) p q) refl
     where
       go : (v : Verdict) → arrive_verdict s (length list) p q ≡ v → let a = arrive_of s list p q cell in Here (arrived lent p q cell a.reply a.store)
-      go Accepted e = quiet refl refl (rw e refl) (rw e refl)
-      go (Refused r) e = quiet refl refl (rw e refl) (rw e refl)
+      go (Ok _) e = quiet refl refl (rw e refl) (rw e refl)
+      go (Err r) e = quiet refl refl (rw e refl) (rw e refl)
 
   load_turn : (n t : ℕ) (new : List ℕ) → Here (loaded n t new (load_of s n t new))
   unfolding load_of
   load_turn n t new = go (load_verdict s n t new) refl
     where
       go : (v : Verdict) → load_verdict s n t new ≡ v → Here (loaded n t new (load_of s n t new))
-      go Accepted e = quiet refl refl (rw e refl) (rw e refl)
-      go (Refused r) e = quiet refl refl (rw e refl) (rw e refl)
+      go (Ok _) e = quiet refl refl (rw e refl) (rw e refl)
+      go (Err r) e = quiet refl refl (rw e refl) (rw e refl)
 
   call_turn : (c : Call) → RunsIn rates (answered s store c) → Here (answered s store c)
   call_turn (step own) runs = step_turn own store runs

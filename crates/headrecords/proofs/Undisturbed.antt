@@ -4,8 +4,8 @@ use mathlib.Core.Path.{◌≡◌, refl, ap, sym, subst, ◌∙◌}
 use mathlib.Core.List.{List, [], ◌∷◌, ◌++◌, append_assoc, append-nil}
 use native.Mathlib.Decide.{ℕ_discrete}
 use native.Mathlib.Omega.{arith}
-use Rattle.refusal.specs.declared.Verdict.{Verdict}
-use Rattle.refusal.specs.declared.Verdict.TheVariants.{Accepted, Refused}
+use Rattle.refusal.specs.Verdict.{Verdict}
+use Rattle.std.specs.Prelude.{Ok, Err}
 use Rattle.refusal.proofs.ChainLaws.{refused_not_accepted}
 use Rattle.planpair.specs.Rates.{plan_rates}
 use Rattle.crossbar.specs.Start.{fresh_with}
@@ -32,8 +32,8 @@ kept_one rates (arrived lent i j cell r left) none = refl
 kept_one rates (loaded n t new r) none = go r.verdict refl
   where
     go : (v : Verdict) → r.verdict ≡ v → accepted_after rates (loaded n t new r) ≡ rates
-    go Accepted e = absurd (none e)
-    go (Refused why) e = rw e refl
+    go (Ok _) e = absurd (none e)
+    go (Err why) e = rw e refl
 
 kept : (rates : List ℕ) (es : List Event) → NoLoad es → last_accepted rates es ≡ rates
 kept rates [] none = refl
@@ -46,9 +46,9 @@ begins_or_not s (loaded n t rates r) = no (λ b. b)
 begins_or_not s (stepped lent r) = go r.verdict refl (ℕ_discrete s.slot 0)
   where
     go : (v : Verdict) → r.verdict ≡ v → Dec (s.slot ≡ 0) → Dec (BeginsFrame s (stepped lent r))
-    go Accepted e (yes z) = yes (e, z)
-    go Accepted e (no ne) = no (λ b. ne b.1)
-    go (Refused why) e d = no (λ b. refused_not_accepted why (sym e ∙ b.0))
+    go (Ok _) e (yes z) = yes (e, z)
+    go (Ok _) e (no ne) = no (λ b. ne b.1)
+    go (Err why) e d = no (λ b. refused_not_accepted why (sym e ∙ b.0))
 
 module _ (run : Run) (none : NoLoad run.events) where
   abbrev s₀ : Switch

@@ -1,8 +1,7 @@
 -- What service staff record at a head: "in any run, take the slots from a frame's start on through which one plan runs; what
 -- head j answered in them, read as a record," is "a record made under one plan from a frame start". So its covers keep the bounds.
-use Rattle.std.specs.Prelude.{ℕ, ◌<◌, ◌≡◌, List, [], ◌∷◌, ◌++◌, length, get_or}
+use Rattle.std.specs.Prelude.{ℕ, ◌<◌, ◌≡◌, List, [], ◌∷◌, ◌++◌, length, get_or, Ok}
 use Rattle.refusal.specs.Chain.{if_accepted}
-use Rattle.refusal.specs.declared.Verdict.TheVariants.{Accepted}
 use Rattle.plan.specs.Lines.{flow_of}
 use Rattle.planpair.specs.Rates.{plan_rates}
 use Rattle.multiplexer.specs.Window.{column_of}
@@ -36,7 +35,7 @@ head_record j (e ∷ es) = entries_in j e ++ head_record j es
 
 -- the plan with these rates runs in each slot; a step hands back the state with that plan still running
 abbrev pub RunsIn : List ℕ → Event → Type 0
-RunsIn rates (stepped lent r) = r.verdict ≡ Accepted → plan_rates r.state.running ≡ rates
+RunsIn rates (stepped lent r) = r.verdict ≡ Ok tt → plan_rates r.state.running ≡ rates
 RunsIn rates (arrived lent p q cell r left) = Unit {0}
 RunsIn rates (loaded n t new r) = Unit {0}
 

@@ -1,17 +1,13 @@
 // The lines of the table: what was tried, and the verdict.
-use refusal::Verdict;
+use refusal::{Refusal, verdict_number};
 
-fn wide(x: u8) -> u64 {
-    x as u64
-}
-
-fn end_line(rt: &impl Print, verdict: Verdict) {
-    let Verdict::Refused(_) = verdict else {
+fn end_line(rt: &impl Print, verdict: Result<(), Refusal>) {
+    let Err(_) = verdict else {
         let _ = rt.write_all(b" accepted\n");
         return;
     };
     let _ = rt.write_all(b" refused ");
-    let _ = rt.print(wide(verdict.number()));
+    let _ = rt.print(u64::from(verdict_number(verdict)));
     let _ = rt.write_all(b"\n");
 }
 
@@ -20,12 +16,12 @@ pub fn say(rt: &impl Print, name: &[u8], value: usize) {
     let _ = rt.print(value);
 }
 
-pub fn report(rt: &impl Print, what: &[u8], verdict: Verdict) {
+pub fn report(rt: &impl Print, what: &[u8], verdict: Result<(), Refusal>) {
     let _ = rt.write_all(what);
     end_line(rt, verdict);
 }
 
-pub fn report_at(rt: &impl Print, name: &[u8], value: usize, verdict: Verdict) {
+pub fn report_at(rt: &impl Print, name: &[u8], value: usize, verdict: Result<(), Refusal>) {
     say(rt, name, value);
     end_line(rt, verdict);
 }

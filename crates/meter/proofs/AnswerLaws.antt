@@ -8,8 +8,8 @@ use lib.Dec.{ltb}
 use lib.ListN.{length}
 use borrow.Author.Tests.{le-ltb, ltb-false}
 use Rattle.refusal.specs.Chain.{if_accepted}
-use Rattle.refusal.specs.declared.Verdict.{Verdict}
-use Rattle.refusal.specs.declared.Verdict.TheVariants.{Accepted, Refused}
+use Rattle.refusal.specs.Verdict.{Verdict}
+use Rattle.std.specs.Prelude.{Ok, Err}
 use Rattle.refusal.proofs.ChainLaws.{refused_not_accepted, refuse_passed}
 use Rattle.meter.specs.Cover.{most_record, cover_at, Inside, FirstBest}
 use Rattle.meter.specs.Answer.{cover_verdict, Measures, refused_cover, CoversUnder, Covers, NoSlots, OneAnswer}
@@ -24,13 +24,13 @@ or_false true b e = let z : ◌≡◌ {A = ℕ} 0 1 = cc in absurd (omega arith)
 or_false false b e = (refl, e)
 
 -- a record that is not refused has the l slots, and is not too long
-pub accepted_record : (slots l : ℕ) → cover_verdict slots l ≡ Accepted → (l ≤ slots) × (slots ≤ most_record)
+pub accepted_record : (slots l : ℕ) → cover_verdict slots l ≡ Ok tt → (l ≤ slots) × (slots ≤ most_record)
 unfolding cover_verdict
 accepted_record slots l e =
     let both = or_false (ltb slots l) (ltb most_record slots) (refuse_passed _ _ _ e).0 in
     (ltb-false slots l both.0, ltb-false most_record slots both.1)
 
-record_accepted : (slots l : ℕ) → l ≤ slots → slots ≤ most_record → cover_verdict slots l ≡ Accepted
+record_accepted : (slots l : ℕ) → l ≤ slots → slots ≤ most_record → cover_verdict slots l ≡ Ok tt
 unfolding cover_verdict
 record_accepted slots l h short = rw (le-ltb slots l h, le-ltb most_record slots short) refl
 
@@ -45,34 +45,34 @@ module _ (recorded : List ℕ) (flow l : ℕ) where
   found : {R : ℕ → ℕ → Type 0} → Order R → (or : Stretch → ℕ → ℕ → Stretch) → Keeps R or → l ≤ length recorded → FirstBest R (Inside recorded l) c (kept_to or c last)
   found order or keeps h = first_in (λ t m. omega arith) (λ t m. omega arith) (kept_first order or keeps c last)
 
-  pub kept_measures : l ≤ length recorded → Measures recorded flow l (record { verdict = Accepted; least = kept_to or_less c last; most = kept_to or_more c last })
+  pub kept_measures : l ≤ length recorded → Measures recorded flow l (record { verdict = Ok tt; least = kept_to or_less c last; most = kept_to or_more c last })
   kept_measures h = record { accepted = refl; least = found at_least or_less less_keeps h; most = found at_most or_more more_keeps h }
 
-  covers_under : (v : Verdict) → (v ≡ Accepted → l ≤ length recorded)
+  covers_under : (v : Verdict) → (v ≡ Ok tt → l ≤ length recorded)
       → CoversUnder v recorded flow l (if_accepted v (record { verdict = v; least = kept_to or_less c last; most = kept_to or_more c last }) (refused_cover v))
-  covers_under Accepted h = kept_measures (h refl)
-  covers_under (Refused why) h = refl
+  covers_under (Ok _) h = kept_measures (h refl)
+  covers_under (Err why) h = refl
 
   only_under : (v : Verdict) (r r' : Measured) → CoversUnder v recorded flow l r → CoversUnder v recorded flow l r' → r ≡ r'
-  only_under Accepted r r' m m' =
+  only_under (Ok _) r r' m m' =
       let least = first_only at_least (Inside recorded l) c r.least r'.least m.least m'.least in
       let most = first_only at_most (Inside recorded l) c r.most r'.most m.most m'.most in
       ap (λ (v : Verdict). record { verdict = v; least = r.least; most = r.most }) (m.accepted ∙ sym m'.accepted)
       ∙ ap (λ (s : Stretch). record { verdict = r'.verdict; least = s; most = r.most }) least
       ∙ ap (λ (s : Stretch). record { verdict = r'.verdict; least = r'.least; most = s }) most
-  only_under (Refused why) r r' m m' = m ∙ sym m'
+  only_under (Err why) r r' m m' = m ∙ sym m'
 
   -- what the code answers under its verdict
   pub covers_as : (v : Verdict) (r : Measured) → v ≡ cover_verdict (length recorded) l → CoversUnder v recorded flow l r → Covers recorded flow l r
   covers_as v r e is = subst (λ (w : Verdict). CoversUnder w recorded flow l r) e is
 
   -- an answer that is not refused is measured
-  pub covers_measures : (r : Measured) → Covers recorded flow l r → r.verdict ≡ Accepted → Measures recorded flow l r
+  pub covers_measures : (r : Measured) → Covers recorded flow l r → r.verdict ≡ Ok tt → Measures recorded flow l r
   covers_measures r covers e = go (cover_verdict (length recorded) l) covers
     where
       go : (v : Verdict) → CoversUnder v recorded flow l r → Measures recorded flow l r
-      go Accepted is = is
-      go (Refused why) is = absurd (refused_not_accepted why (sym (ap (λ (x : Measured). x.verdict) is) ∙ e))
+      go (Ok _) is = is
+      go (Err why) is = absurd (refused_not_accepted why (sym (ap (λ (x : Measured). x.verdict) is) ∙ e))
 
   pub cover_is : Covers recorded flow l (cover_of recorded flow l)
   unfolding cover_of
@@ -86,7 +86,7 @@ module _ (recorded : List ℕ) (flow l : ℕ) where
 
 pub no_slots : (recorded : List ℕ) (flow : ℕ) → NoSlots recorded flow
 no_slots recorded flow short =
-    covers_as recorded flow 0 Accepted _ (sym (record_accepted (length recorded) 0 (omega arith) short))
+    covers_as recorded flow 0 (Ok tt) _ (sym (record_accepted (length recorded) 0 (omega arith) short))
     record {
       accepted = refl;
       least = record { inside = omega arith; there = sym (none 0); none_better = λ t i. omega arith; none_earlier = λ t i e. omega arith };

@@ -4,7 +4,7 @@ use mathlib.Core.Path.{◌≡◌, refl, ap, sym, ◌∙◌}
 use mathlib.Core.List.{List}
 use native.Mathlib.Omega.{arith}
 use lib.ListN.{length}
-use Rattle.refusal.specs.declared.Verdict.TheVariants.{Accepted}
+use Rattle.std.specs.Prelude.{Ok}
 use Rattle.meter.specs.Cover.{cover_at}
 use Rattle.meter.specs.Answer.{Measures}
 use Rattle.meter.specs.Search.{or_less, or_more, kept_to}
@@ -49,7 +49,7 @@ module _ (recorded : List ℕ) (flow l : ℕ) where
       }
 
   pub looked_all : {p services : ℕ} {least most : Stretch} → Looked p services least most → l ≤ length recorded → p ≡ length recorded + 1 - l
-      → Measures recorded flow l (record { verdict = Accepted; least = least; most = most })
+      → Measures recorded flow l (record { verdict = Ok tt; least = least; most = most })
   looked_all {p} k h e =
       let last : p - 1 ≡ length recorded - l = omega arith in
       rw (k.fewest, k.largest, last) (kept_measures recorded flow l h)

@@ -4,7 +4,7 @@ use mathlib.Core.Path.{◌≡◌, subst}
 use mathlib.Core.List.{List}
 use native.Mathlib.Omega.{arith}
 use lib.ListN.{length, get_or}
-use Rattle.refusal.specs.declared.Verdict.TheVariants.{Accepted}
+use Rattle.std.specs.Prelude.{Ok}
 use Rattle.plan.specs.Below.{sum_below}
 use Rattle.plan.proofs.AcceptLaws.{accepted}
 use Rattle.multiplexer.specs.Window.{column_of, Fits, FrameStart, WindowRule}
@@ -41,7 +41,7 @@ module _ (rs : List ℕ) (T : ℕ) (fits : Fits rs T) (rule : (ks : List ℕ) �
         at_most = near_most T a (C t) t l (cover_at recorded f l t) fits.some_slot begin end some;
       }
 
-  measured : (l : ℕ) (r : Measured) → 1 ≤ l → Covers recorded f l r → r.verdict ≡ Accepted → WithinBounds l a T r.least.services r.most.services
+  measured : (l : ℕ) (r : Measured) → 1 ≤ l → Covers recorded f l r → r.verdict ≡ Ok tt → WithinBounds l a T r.least.services r.most.services
   measured l r some covers e =
       let m = covers_measures recorded f l r covers e in
       record {

@@ -1,10 +1,9 @@
 -- "For a flow number and a length l they want the least and the most services in any l consecutive slots of the record,
 -- with the first place where each occurs." What `cover` answers.
-use Rattle.std.specs.Prelude.{ℕ, ◌≤◌, ◌≡◌, Bool, ◌||◌, List, ltb, length}
+use Rattle.std.specs.Prelude.{ℕ, ◌≤◌, ◌≡◌, Bool, ◌||◌, List, ltb, length, Ok, Err}
 use Rattle.refusal.specs.Chain.{refuse_if}
 use Rattle.refusal.specs.declared.Refusal.TheVariants.{RecordLength}
-use Rattle.refusal.specs.declared.Verdict.{Verdict}
-use Rattle.refusal.specs.declared.Verdict.TheVariants.{Accepted, Refused}
+use Rattle.refusal.specs.Verdict.{Verdict}
 use Rattle.meter.specs.Cover.{most_record, MinimumCover, MaximumCover}
 use Rattle.meter.specs.declared.Measured.{Measured}
 use Rattle.meter.specs.declared.Stretch.{Stretch}
@@ -14,11 +13,11 @@ abbrev pub wrong_length : ℕ → ℕ → Bool
 wrong_length slots l = ltb slots l || ltb most_record slots
 
 unfoldable pub cover_verdict : ℕ → ℕ → Verdict
-cover_verdict slots l = refuse_if (wrong_length slots l) RecordLength Accepted
+cover_verdict slots l = refuse_if (wrong_length slots l) RecordLength (Ok tt)
 
 -- an accepted answer
 pub record Measures (recorded : List ℕ) (flow l : ℕ) (r : Measured) : Type 0 where
-  pub accepted : r.verdict ≡ Accepted
+  pub accepted : r.verdict ≡ Ok tt
   pub least : MinimumCover recorded flow l r.least
   pub most : MaximumCover recorded flow l r.most
 
@@ -31,15 +30,15 @@ refused_cover v = record { verdict = v; least = none; most = none }
 
 -- what is answered under a verdict
 abbrev pub CoversUnder : Verdict → List ℕ → ℕ → ℕ → Measured → Type 0
-CoversUnder Accepted recorded flow l r = Measures recorded flow l r
-CoversUnder (Refused why) recorded flow l r = r ≡ refused_cover (Refused why)
+CoversUnder (Ok _) recorded flow l r = Measures recorded flow l r
+CoversUnder (Err why) recorded flow l r = r ≡ refused_cover (Err why)
 
 abbrev pub Covers : List ℕ → ℕ → ℕ → Measured → Type 0
 Covers recorded flow l r = CoversUnder (cover_verdict (length recorded) l) recorded flow l r
 
 -- "For l = 0 both are 0 at place 0", also for an empty record
 abbrev pub NoSlots : List ℕ → ℕ → Type 0
-NoSlots recorded flow = length recorded ≤ most_record → Covers recorded flow 0 (record { verdict = Accepted; least = none; most = none })
+NoSlots recorded flow = length recorded ≤ most_record → Covers recorded flow 0 (record { verdict = Ok tt; least = none; most = none })
 
 -- there is one answer that satisfies a description
 pub record OneAnswer (Is : Measured → Type 0) : Type 0 where

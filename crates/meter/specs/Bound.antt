@@ -1,7 +1,6 @@
 -- "On a record made under one plan from a frame start, for l of 1 or more and a rate above 0, the most is at most
 -- (l − 1) × a / T rounded up, plus 1, and the least at least (l + 1) × a / T rounded down, less 1."
-use Rattle.std.specs.Prelude.{ℕ, ◌+◌, ◌-◌, ◌*◌, ◌/◌, ◌≤◌, ◌<◌, ◌≡◌, List, length, get_or}
-use Rattle.refusal.specs.declared.Verdict.TheVariants.{Accepted}
+use Rattle.std.specs.Prelude.{ℕ, ◌+◌, ◌-◌, ◌*◌, ◌/◌, ◌≤◌, ◌<◌, ◌≡◌, List, length, get_or, Ok}
 use Rattle.plan.specs.Lines.{flow_of}
 use Rattle.plan.specs.Accept.{accept_of}
 use Rattle.multiplexer.specs.Choose.{rounded_up}
@@ -27,7 +26,7 @@ pub record Smooth (recorded : List ℕ) (flow a T : ℕ) : Type 0 where
   -- at each place of a record of any length
   pub everywhere : (l t : ℕ) → 1 ≤ l → Inside recorded l t → WithinBounds l a T (cover_at recorded flow l t) (cover_at recorded flow l t)
   -- of what `cover` answers
-  pub measured : (l : ℕ) (r : Measured) → 1 ≤ l → Covers recorded flow l r → r.verdict ≡ Accepted
+  pub measured : (l : ℕ) (r : Measured) → 1 ≤ l → Covers recorded flow l r → r.verdict ≡ Ok tt
       → WithinBounds l a T r.least.services r.most.services
 
 -- The theorem: the window rule for each frame that begins with counts 0 is enough.
@@ -40,5 +39,5 @@ SmoothByWindows rs T =
 -- So it holds of the record of each head of an accepted plan.
 abbrev pub SmoothHeads : ℕ → ℕ → List ℕ → Type 0
 SmoothHeads n T rates =
-    accept_of n T rates ≡ Accepted → (i j : ℕ) → i < n → j < n
+    accept_of n T rates ≡ Ok tt → (i j : ℕ) → i < n → j < n
     → (recorded : List ℕ) → UnderOnePlan (column_of rates n j) T recorded → Smooth recorded i (get_or rates (flow_of n i j) 0) T

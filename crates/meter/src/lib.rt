@@ -6,7 +6,7 @@ ghost use Rattle.meter.specs.Cover.{most_record, service_in, cover_at};
 ghost use Rattle.meter.specs.Answer.{wrong_length, cover_verdict, Measures, refused_cover, Covers};
 ghost use Rattle.meter.specs.Search.{or_less, or_more};
 
-use refusal::{Refusal, Verdict};
+use refusal::Refusal;
 
 // The slots of the longest record.
 const MOST_RECORD: usize = 65535;
@@ -25,7 +25,7 @@ pub struct Stretch {
 // The first stretches with the least and with the most services. Of a refused call all numbers are 0.
 #[derive(Drop)]
 pub struct Measured {
-    pub verdict: Verdict,
+    pub verdict: Result<(), Refusal>,
     pub least: Stretch,
     pub most: Stretch,
 }
@@ -36,13 +36,13 @@ fn wrong_length(slots: usize, l: usize) -> bool
     (slots < l) | (MOST_RECORD < slots)
 }
 
-fn judge(slots: usize, l: usize) -> Verdict
+fn judge(slots: usize, l: usize) -> Result<(), Refusal>
     ensures { result ≡ cover_verdict slots l }
 {
     if wrong_length(slots, l) {
-        return Verdict::Refused(Refusal::RecordLength);
+        return Err(Refusal::RecordLength);
     }
-    Verdict::Accepted
+    Ok(())
 }
 
 fn service(flow: u16, entry: u16) -> usize
@@ -98,7 +98,7 @@ fn measure(recorded: &[u16], flow: u16, l: usize) -> Measured
         least = least.or_less(services, place);
         most = most.or_more(services, place);
     }
-    let verdict = Verdict::Accepted;
+    let verdict = Ok(());
     Measured {
         verdict,
         least,
@@ -106,7 +106,7 @@ fn measure(recorded: &[u16], flow: u16, l: usize) -> Measured
     }
 }
 
-fn refused(verdict: Verdict) -> Measured
+fn refused(verdict: Result<(), Refusal>) -> Measured
     ensures { result ≡ refused_cover verdict }
 {
     let none = Stretch {
@@ -125,7 +125,7 @@ pub fn cover(recorded: &[u16], flow: u16, l: usize) -> Measured
     ensures { Covers recorded.now flow l result }
 {
     let verdict = judge(recorded.len(), l);
-    let Verdict::Accepted = verdict else {
+    let Ok(()) = verdict else {
         return refused(verdict);
     };
     measure(recorded, flow, l)

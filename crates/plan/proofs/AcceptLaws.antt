@@ -11,8 +11,8 @@ use Rattle.refusal.specs.Chain.{refuse_if}
 use Rattle.refusal.specs.Number.{number_of, verdict_number_of}
 use Rattle.refusal.specs.declared.Refusal.TheVariants.{PortsOutOfRange, FrameOutOfRange, ListLength, RowAboveFrame, ColumnAboveFrame}
 use Rattle.refusal.specs.declared.Refusal.{Refusal}
-use Rattle.refusal.specs.declared.Verdict.{Verdict}
-use Rattle.refusal.specs.declared.Verdict.TheVariants.{Accepted, Refused}
+use Rattle.refusal.specs.Verdict.{Verdict}
+use Rattle.std.specs.Prelude.{Ok, Err}
 use Rattle.refusal.proofs.ChainLaws.{refuse_passed}
 use Rattle.plan.specs.Lines.{row_sum, column_sum, line_sum, is_square}
 use Rattle.plan.specs.Range.{ports_in_range, frame_in_range}
@@ -33,7 +33,7 @@ rows_within rates n t = all_ext _ _ n (λ k l. ap (λ (s : ℕ). leb s t) (row_l
 pub columns_within : (rates : List ℕ) (n t : ℕ) → within_frame (line_sum rates n 1 n) n t ≡ within_frame (column_sum rates n) n t
 columns_within rates n t = all_ext _ _ n (λ k l. ap (λ (s : ℕ). leb s t) (column_line rates n k))
 
-pub accepted : (n t : ℕ) (rates : List ℕ) → accept_of n t rates ≡ Accepted → IsPlan n t rates
+pub accepted : (n t : ℕ) (rates : List ℕ) → accept_of n t rates ≡ Ok tt → IsPlan n t rates
 unfolding accept_of
 accepted n t rates e =
     let first = refuse_passed (not (ports_in_range n)) _ _ e in
@@ -53,7 +53,7 @@ accepted n t rates e =
       columns = within_holds (column_sum rates n) n t (not-false _ fifth.0);
     }
 
-pub accepts : (n t : ℕ) (rates : List ℕ) → IsPlan n t rates → accept_of n t rates ≡ Accepted
+pub accepts : (n t : ℕ) (rates : List ℕ) → IsPlan n t rates → accept_of n t rates ≡ Ok tt
 unfolding accept_of
 accepts n t rates p =
     simp (
@@ -65,13 +65,13 @@ accepts n t rates p =
     )
 
 -- N is looked at first
-pub ports_decide : (n t : ℕ) (rates : List ℕ) → ports_in_range n ≡ false → accept_of n t rates ≡ Refused PortsOutOfRange
+pub ports_decide : (n t : ℕ) (rates : List ℕ) → ports_in_range n ≡ false → accept_of n t rates ≡ Err PortsOutOfRange
 unfolding accept_of
 ports_decide n t rates e = simp e
 
 -- where N, T and the length are right, the rows decide, then the columns
 pub sums_decide : (n t : ℕ) (rates : List ℕ) → ports_in_range n ≡ true → frame_in_range t ≡ true → length rates ≡ n * n
-    → accept_of n t rates ≡ refuse_if (not (within_frame (row_sum rates n) n t)) RowAboveFrame (refuse_if (not (within_frame (column_sum rates n) n t)) ColumnAboveFrame Accepted)
+    → accept_of n t rates ≡ refuse_if (not (within_frame (row_sum rates n) n t)) RowAboveFrame (refuse_if (not (within_frame (column_sum rates n) n t)) ColumnAboveFrame (Ok tt))
 unfolding accept_of
 sums_decide n t rates hn ht hl = simp (hn, ht, eq-eqb (length rates) (n * n) hl)
 
@@ -79,7 +79,7 @@ sums_decide n t rates hn ht hl = simp (hn, ht, eq-eqb (length rates) (n * n) hl)
 abbrev OfPlan : Verdict → Type 0
 OfPlan v = verdict_number_of v ≤ number_of ColumnAboveFrame
 
-refuse_of_plan : (b : Bool) (r : Refusal) (rest : Verdict) → OfPlan (Refused r) → OfPlan rest → OfPlan (refuse_if b r rest)
+refuse_of_plan : (b : Bool) (r : Refusal) (rest : Verdict) → OfPlan (Err r) → OfPlan rest → OfPlan (refuse_if b r rest)
 refuse_of_plan true r rest here there = here
 refuse_of_plan false r rest here there = there
 

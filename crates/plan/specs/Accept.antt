@@ -1,10 +1,9 @@
 -- "A plan is accepted exactly when N and T are in range, the list has N × N numbers, and no row sum and
 -- no column sum exceeds T." Order: "1 to 5, all rows before all columns".
-use Rattle.std.specs.Prelude.{ℕ, ◌*◌, ◌<◌, ◌≤◌, Bool, not, List, ◌≡◌, length, leb}
+use Rattle.std.specs.Prelude.{ℕ, ◌*◌, ◌<◌, ◌≤◌, Bool, not, List, ◌≡◌, length, leb, Ok}
 use Rattle.refusal.specs.Chain.{refuse_if}
 use Rattle.refusal.specs.declared.Refusal.TheVariants.{PortsOutOfRange, FrameOutOfRange, ListLength, RowAboveFrame, ColumnAboveFrame}
-use Rattle.refusal.specs.declared.Verdict.{Verdict}
-use Rattle.refusal.specs.declared.Verdict.TheVariants.{Accepted}
+use Rattle.refusal.specs.Verdict.{Verdict}
 use Rattle.plan.specs.Below.{all_below}
 use Rattle.plan.specs.Lines.{row_sum, column_sum, is_square}
 use Rattle.plan.specs.Range.{most_ports, most_slots, ports_in_range, frame_in_range}
@@ -20,7 +19,7 @@ accept_of n t rates =
     (refuse_if (not (is_square n rates)) ListLength
     (refuse_if (not (within_frame (row_sum rates n) n t)) RowAboveFrame
     (refuse_if (not (within_frame (column_sum rates n) n t)) ColumnAboveFrame
-    Accepted))))
+    (Ok tt)))))
 
 -- What is known of an accepted plan. proofs/AcceptLaws.antt has that these are the accepted ones, and no others.
 pub record IsPlan (n t : ℕ) (rates : List ℕ) : Type 0 where

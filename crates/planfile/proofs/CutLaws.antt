@@ -13,8 +13,8 @@ use borrow.Author.Tests.{le-ltb, ne_eqb, not-false}
 use Rattle.refusal.specs.Chain.{refuse_if, if_accepted}
 use Rattle.refusal.specs.declared.Refusal.{Refusal}
 use Rattle.refusal.specs.declared.Refusal.TheVariants.{PortsOutOfRange, FrameOutOfRange, NotPlanFile, FileLength}
-use Rattle.refusal.specs.declared.Verdict.{Verdict}
-use Rattle.refusal.specs.declared.Verdict.TheVariants.{Refused}
+use Rattle.refusal.specs.Verdict.{Verdict}
+use Rattle.std.specs.Prelude.{Err}
 use Rattle.refusal.proofs.ChainLaws.{refuse_ext}
 use Rattle.plan.specs.declared.Plan.{Plan}
 use Rattle.plan.specs.NoPlan.{no_plan}
@@ -32,7 +32,7 @@ too_long marked n t =
     refuse_if (not marked) NotPlanFile
     (refuse_if (not (ports_in_range n)) PortsOutOfRange
     (refuse_if (not (frame_in_range t)) FrameOutOfRange
-    (Refused FileLength)))
+    (Err FileLength)))
 
 abbrev marked_in : List ℕ → Bool
 marked_in file = is_marked file && eqb (version_in file) 1

@@ -3,7 +3,7 @@ use Prim.Native.Nat.{ℕ}
 use mathlib.Core.Path.{◌≡◌, refl}
 use mathlib.Core.List.{List, [], ◌∷◌}
 use Rattle.refusal.specs.declared.Refusal.TheVariants.{PortsOutOfRange, FrameOutOfRange, RowAboveFrame, ColumnAboveFrame, NotPlanFile, FileLength}
-use Rattle.refusal.specs.declared.Verdict.TheVariants.{Accepted, Refused}
+use Rattle.std.specs.Prelude.{Ok, Err}
 use Rattle.plan.specs.Lines.{row_sum, column_sum}
 use Rattle.plan.specs.Range.{ports_in_range, frame_in_range}
 use Rattle.plan.specs.Accept.{accept_of}
@@ -12,7 +12,7 @@ use Rattle.planfile.specs.Read.{verdict_of, plan_of, reading_of, read_of}
 use Rattle.planfile.specs.Write.{head_of, rate_bytes, file_of}
 
 -- "4C 53 50 01 00 02 02 00 01 00 01 00 01 00 00 00 (hexadecimal)"
-scope_file_lem : read_of (76 ∷ 83 ∷ 80 ∷ 1 ∷ 0 ∷ 2 ∷ 2 ∷ 0 ∷ 1 ∷ 0 ∷ 1 ∷ 0 ∷ 1 ∷ 0 ∷ 0 ∷ 0 ∷ []) ≡ reading_of Accepted (plan_of 2 2 (1 ∷ 1 ∷ 1 ∷ 0 ∷ []))
+scope_file_lem : read_of (76 ∷ 83 ∷ 80 ∷ 1 ∷ 0 ∷ 2 ∷ 2 ∷ 0 ∷ 1 ∷ 0 ∷ 1 ∷ 0 ∷ 1 ∷ 0 ∷ 0 ∷ 0 ∷ []) ≡ reading_of (Ok tt) (plan_of 2 2 (1 ∷ 1 ∷ 1 ∷ 0 ∷ []))
 unfolding read_of verdict_of is_marked rates_of padded_to ports_in_range frame_in_range accept_of row_sum column_sum
 scope_file_lem = refl
 
@@ -31,14 +31,14 @@ file version n t rates = 76 ∷ 83 ∷ 80 ∷ version ∷ 0 ∷ n ∷ t ∷ 0 �
 
 -- the order of the refusals, with the scope's small examples: each file but the first two has right what the one before had wrong
 refused_files :
-    (verdict_of [] ≡ Refused FileLength)
-    × (verdict_of (0 ∷ 0 ∷ 0 ∷ 0 ∷ 0 ∷ 0 ∷ 0 ∷ []) ≡ Refused FileLength)
-    × (verdict_of (0 ∷ 0 ∷ 0 ∷ 0 ∷ 0 ∷ 0 ∷ 0 ∷ 0 ∷ []) ≡ Refused NotPlanFile)
-    × (verdict_of (file 2 17 0 []) ≡ Refused NotPlanFile)
-    × (verdict_of (file 1 17 0 []) ≡ Refused PortsOutOfRange)
-    × (verdict_of (file 1 2 0 []) ≡ Refused FrameOutOfRange)
-    × (verdict_of (file 1 2 3 []) ≡ Refused FileLength)
-    × (verdict_of (file 1 2 3 (2 ∷ 0 ∷ 2 ∷ 0 ∷ 2 ∷ 0 ∷ 0 ∷ 0 ∷ [])) ≡ Refused RowAboveFrame)
-    × (verdict_of (file 1 2 3 (2 ∷ 0 ∷ 0 ∷ 0 ∷ 2 ∷ 0 ∷ 0 ∷ 0 ∷ [])) ≡ Refused ColumnAboveFrame)
+    (verdict_of [] ≡ Err FileLength)
+    × (verdict_of (0 ∷ 0 ∷ 0 ∷ 0 ∷ 0 ∷ 0 ∷ 0 ∷ []) ≡ Err FileLength)
+    × (verdict_of (0 ∷ 0 ∷ 0 ∷ 0 ∷ 0 ∷ 0 ∷ 0 ∷ 0 ∷ []) ≡ Err NotPlanFile)
+    × (verdict_of (file 2 17 0 []) ≡ Err NotPlanFile)
+    × (verdict_of (file 1 17 0 []) ≡ Err PortsOutOfRange)
+    × (verdict_of (file 1 2 0 []) ≡ Err FrameOutOfRange)
+    × (verdict_of (file 1 2 3 []) ≡ Err FileLength)
+    × (verdict_of (file 1 2 3 (2 ∷ 0 ∷ 2 ∷ 0 ∷ 2 ∷ 0 ∷ 0 ∷ 0 ∷ [])) ≡ Err RowAboveFrame)
+    × (verdict_of (file 1 2 3 (2 ∷ 0 ∷ 0 ∷ 0 ∷ 2 ∷ 0 ∷ 0 ∷ 0 ∷ [])) ≡ Err ColumnAboveFrame)
 unfolding verdict_of is_marked rates_of ports_in_range frame_in_range accept_of row_sum column_sum
 refused_files = (refl, refl, refl, refl, refl, refl, refl, refl, refl)

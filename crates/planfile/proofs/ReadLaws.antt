@@ -11,7 +11,7 @@ use borrow.Author.Tests.{eqb-true, not-false}
 use Rattle.refusal.specs.Chain.{refuse_if}
 use Rattle.refusal.specs.declared.Refusal.{Refusal}
 use Rattle.refusal.specs.declared.Refusal.TheVariants.{PortsOutOfRange, FrameOutOfRange, RowAboveFrame, ColumnAboveFrame, NotPlanFile, FileLength}
-use Rattle.refusal.specs.declared.Verdict.TheVariants.{Accepted, Refused}
+use Rattle.std.specs.Prelude.{Ok, Err}
 use Rattle.refusal.proofs.ChainLaws.{refuse_passed, refuse_ext}
 use Rattle.plan.specs.Lines.{row_sum, column_sum}
 use Rattle.plan.specs.Range.{most_flows, ports_in_range, frame_in_range}
@@ -33,7 +33,7 @@ pub verdict_order : (file : List ℕ) →
     (refuse_if (not (eqb (length file) (file_length (ports_in file)))) FileLength
     (refuse_if (not (within_frame (row_sum (rates_in file) (ports_in file)) (ports_in file) (frame_in file))) RowAboveFrame
     (refuse_if (not (within_frame (column_sum (rates_in file) (ports_in file)) (ports_in file) (frame_in file))) ColumnAboveFrame
-    Accepted))))))
+    (Ok tt)))))))
 unfolding verdict_of
 verdict_order file =
     refuse_ext (ltb (length file) 8) FileLength λ _.
@@ -49,7 +49,7 @@ pub record AcceptedFile (file : List ℕ) : Type 0 where
   pub whole : length file ≡ file_length (ports_in file)
   pub plan : IsPlan (ports_in file) (frame_in file) (rates_in file)
 
-pub accepted_file : (file : List ℕ) → verdict_of file ≡ Accepted → AcceptedFile file
+pub accepted_file : (file : List ℕ) → verdict_of file ≡ Ok tt → AcceptedFile file
 unfolding verdict_of
 accepted_file file e =
     let head = refuse_passed (ltb (length file) 8) _ _ e in
@@ -72,10 +72,10 @@ plan_read n t rates p =
       zero_past = λ q h. padded_past rates q (omega (arith, p.square));
     }
 
-pub accepted_plan : (file : List ℕ) → (read_of file).verdict ≡ Accepted → FilePlan (read_of file).plan
+pub accepted_plan : (file : List ℕ) → (read_of file).verdict ≡ Ok tt → FilePlan (read_of file).plan
 unfolding read_of
 accepted_plan file e = rw e (plan_read (ports_in file) (frame_in file) (rates_in file) (accepted_file file e).plan)
 
-pub refused_plan : (file : List ℕ) (r : Refusal) → (read_of file).verdict ≡ Refused r → (read_of file).plan ≡ no_plan
+pub refused_plan : (file : List ℕ) (r : Refusal) → (read_of file).verdict ≡ Err r → (read_of file).plan ≡ no_plan
 unfolding read_of
 refused_plan file r e = rw e refl

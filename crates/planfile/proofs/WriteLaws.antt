@@ -12,8 +12,8 @@ use lib.ListN.{length, get_or, set, take, length-append, get_or-append}
 use lib.Seq.{take-suc, get_or-append-add, get_or_at, take_all, ext_get_or}
 use borrow.Author.Tests.{le-ltb, eqb-true, eq-eqb}
 use Rattle.refusal.specs.declared.Refusal.{Refusal}
-use Rattle.refusal.specs.declared.Verdict.{Verdict}
-use Rattle.refusal.specs.declared.Verdict.TheVariants.{Accepted, Refused}
+use Rattle.refusal.specs.Verdict.{Verdict}
+use Rattle.std.specs.Prelude.{Ok, Err}
 use Rattle.plan.specs.Range.{most_flows}
 use Rattle.plan.specs.Accept.{accept_of}
 use Rattle.plan.proofs.AcceptLaws.{accepted}
@@ -189,22 +189,22 @@ writes_back file bytes e =
     ∙ all_bytes file)
 
 -- what an accepted plan, and a refused one, are written as
-pub write_accepted : (n t : ℕ) (rates : List ℕ) → accept_of n t rates ≡ Accepted → write_of n t rates ≡ writing_of Accepted (file_of n t rates)
+pub write_accepted : (n t : ℕ) (rates : List ℕ) → accept_of n t rates ≡ Ok tt → write_of n t rates ≡ writing_of (Ok tt) (file_of n t rates)
 unfolding write_of
 write_accepted n t rates e = rw e refl
 
-pub refused_same : (r : Refusal) (file other : List ℕ) → writing_of (Refused r) file ≡ writing_of (Refused r) other
+pub refused_same : (r : Refusal) (file other : List ℕ) → writing_of (Err r) file ≡ writing_of (Err r) other
 unfolding writing_of
 refused_same r file other = refl
 
 -- the bytes of a file are within the array
-pub writing_within : (v : Verdict) (file : List ℕ) → (v ≡ Accepted → length file ≤ longest_file) → (writing_of v file).length ≤ length (writing_of v file).bytes
+pub writing_within : (v : Verdict) (file : List ℕ) → (v ≡ Ok tt → length file ≤ longest_file) → (writing_of v file).length ≤ length (writing_of v file).bytes
 unfolding writing_of
-writing_within Accepted file short = omega (arith, padded_length longest_file file (short refl), short refl)
-writing_within (Refused r) file short = omega arith
+writing_within (Ok _) file short = omega (arith, padded_length longest_file file (short refl), short refl)
+writing_within (Err r) file short = omega arith
 
 -- no file of an accepted plan is longer than the longest
-pub file_short : (n t : ℕ) (rates : List ℕ) → accept_of n t rates ≡ Accepted → length (file_of n t rates) ≤ longest_file
+pub file_short : (n t : ℕ) (rates : List ℕ) → accept_of n t rates ≡ Ok tt → length (file_of n t rates) ≤ longest_file
 file_short n t rates e =
     let plan = accepted n t rates e in
     omega (arith, file_length_lem n t rates, square_small n plan.few_ports, plan.square)

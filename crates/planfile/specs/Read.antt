@@ -3,7 +3,7 @@
 use Rattle.std.specs.Prelude.{ℕ, ◌*◌, ◌≤◌, ◌&&◌, not, List, ◌≡◌, ltb, eqb, length, get_or, take}
 use Rattle.refusal.specs.Chain.{refuse_if, if_accepted}
 use Rattle.refusal.specs.declared.Refusal.TheVariants.{PortsOutOfRange, FrameOutOfRange, NotPlanFile, FileLength}
-use Rattle.refusal.specs.declared.Verdict.{Verdict}
+use Rattle.refusal.specs.Verdict.{Verdict}
 use Rattle.plan.specs.declared.Plan.{Plan}
 use Rattle.plan.specs.Range.{most_flows, ports_in_range, frame_in_range}
 use Rattle.plan.specs.Accept.{accept_of, IsPlan}

@@ -1,8 +1,7 @@
 -- Writing a plan file, the inverse of reading it: the bytes of an accepted plan.
-use Rattle.std.specs.Prelude.{ℕ, zero, suc, ◌*◌, ◌/◌, ◌%◌, ◌<◌, List, [], ◌∷◌, ◌++◌, ◌≡◌, length, get_or, take, replicate}
+use Rattle.std.specs.Prelude.{ℕ, zero, suc, ◌*◌, ◌/◌, ◌%◌, ◌<◌, List, [], ◌∷◌, ◌++◌, ◌≡◌, length, get_or, take, replicate, Ok}
 use Rattle.refusal.specs.Chain.{if_accepted}
-use Rattle.refusal.specs.declared.Verdict.{Verdict}
-use Rattle.refusal.specs.declared.Verdict.TheVariants.{Accepted}
+use Rattle.refusal.specs.Verdict.{Verdict}
 use Rattle.plan.specs.Accept.{accept_of}
 use Rattle.planfile.specs.declared.writing.Writing.{Writing}
 use Rattle.planfile.specs.Layout.{byte_at, longest_file, padded_to}
@@ -39,7 +38,7 @@ write_of n t rates = writing_of (accept_of n t rates) (file_of n t rates)
 
 -- Reading what was written gives the plan back (proofs/WriteLaws.antt, reads_back).
 abbrev pub ReadsBack : Type 0
-ReadsBack = (n t : ℕ) (rates : List ℕ) → accept_of n t rates ≡ Accepted → read_of (file_of n t rates) ≡ reading_of Accepted (plan_of n t rates)
+ReadsBack = (n t : ℕ) (rates : List ℕ) → accept_of n t rates ≡ Ok tt → read_of (file_of n t rates) ≡ reading_of (Ok tt) (plan_of n t rates)
 
 -- what stands in a file
 abbrev pub AreBytes : List ℕ → Type 0
@@ -47,5 +46,5 @@ AreBytes file = (p : ℕ) → byte_at file p < 256
 
 -- An accepted file is what writing its plan gives (proofs/WriteLaws.antt, writes_back).
 abbrev pub WritesBack : Type 0
-WritesBack = (file : List ℕ) → AreBytes file → (read_of file).verdict ≡ Accepted →
+WritesBack = (file : List ℕ) → AreBytes file → (read_of file).verdict ≡ Ok tt →
     let plan = (read_of file).plan in file_of plan.ports plan.frame (take (plan.ports * plan.ports) plan.rates) ≡ file

@@ -7,13 +7,13 @@ ghost use Rattle.plan.specs.Accept.{accept_of};
 ghost use Rattle.plan.specs.NoPlan.{no_plan};
 ghost use Rattle.planfile.specs.Layout.{rates_of};
 ghost use Rattle.planfile.specs.Read.{plan_of, reading_of, read_of};
-ghost use Rattle.refusal.specs.declared.Verdict.TheVariants.{Refused};
+ghost use Rattle.std.specs.Prelude.{Err};
 
 use crate::layout::{HEAD, frame_in, is_plan_file, ports_in, rates_of};
 use plan::acceptance::accept;
 use plan::range::{MOST_FLOWS, frame_in_range, ports_in_range};
 use plan::{Plan, no_plan};
-use refusal::{Refusal, Verdict};
+use refusal::Refusal;
 
 mod layout;
 pub mod writing;
@@ -24,14 +24,14 @@ pub const LONGEST_FILE: usize = HEAD + 2 * MOST_FLOWS;
 // The plan of an accepted file; of a refused one its numbers are all 0.
 #[derive(Drop)]
 pub struct Reading {
-    pub verdict: Verdict,
+    pub verdict: Result<(), Refusal>,
     pub plan: Plan,
 }
 
 fn refused(refusal: Refusal) -> Reading
-    ensures { result ≡ reading_of (Refused refusal) no_plan }
+    ensures { result ≡ reading_of (Err refusal) no_plan }
 {
-    let verdict = Verdict::Refused(refusal);
+    let verdict = Err(refusal);
     let plan = no_plan();
     Reading { verdict, plan }
 }
@@ -43,8 +43,8 @@ fn read_rates(bytes: &[u8], n: usize, t: u32, count: usize) -> Reading
 {
     let rates = rates_of(bytes, count);
     match accept(n, t, &rates[0..count]) {
-        Verdict::Accepted => {
-            let verdict = Verdict::Accepted;
+        Ok(()) => {
+            let verdict = Ok(());
             let plan = Plan {
                 ports: n,
                 frame: t,
@@ -52,7 +52,7 @@ fn read_rates(bytes: &[u8], n: usize, t: u32, count: usize) -> Reading
             };
             Reading { verdict, plan }
         }
-        Verdict::Refused(refusal) => refused(refusal),
+        Err(refusal) => refused(refusal),
     }
 }
 

@@ -3,18 +3,18 @@ ghost use Rattle.std.specs.Prelude.{[], ◌≡◌, ◌/◌, ◌%◌, ◌<◌, �
 ghost use Rattle.plan.specs.Range.{most_flows};
 ghost use Rattle.planfile.specs.Layout.{longest_file, padded_to};
 ghost use Rattle.planfile.specs.Write.{head_of, file_of, writing_of, write_of};
-ghost use Rattle.refusal.specs.declared.Verdict.TheVariants.{Refused};
+ghost use Rattle.std.specs.Prelude.{Err};
 
 use crate::LONGEST_FILE;
 use crate::layout::{HEAD, VERSION};
 use plan::acceptance::accept;
-use refusal::{Refusal, Verdict};
+use refusal::Refusal;
 
 // The file of an accepted plan: its bytes, as many as `length` says, and 0 in the places past them. Of a refused plan all
 // is 0.
 #[derive(Drop)]
 pub struct Writing {
-    pub verdict: Verdict,
+    pub verdict: Result<(), Refusal>,
     pub length: usize,
     pub bytes: [u8; LONGEST_FILE],
 }
@@ -67,9 +67,9 @@ fn file(n: usize, t: u32, rates: &[u16]) -> [u8; LONGEST_FILE]
 
 #[tactic(auto, unfolding(crate::specs::Write::writing_of))]
 pub fn no_file(refusal: Refusal) -> Writing
-    ensures { result ≡ writing_of (Refused refusal) [] }
+    ensures { result ≡ writing_of (Err refusal) [] }
 {
-    let verdict = Verdict::Refused(refusal);
+    let verdict = Err(refusal);
     let bytes = [0u8; LONGEST_FILE];
     Writing {
         verdict,
@@ -84,8 +84,8 @@ pub fn write(n: usize, t: u32, rates: &[u16]) -> Writing
     ensures { result ≡ write_of n t rates.now }
 {
     match accept(n, t, rates) {
-        Verdict::Accepted => {
-            let verdict = Verdict::Accepted;
+        Ok(()) => {
+            let verdict = Ok(());
             let bytes = file(n, t, rates);
             Writing {
                 verdict,
@@ -93,6 +93,6 @@ pub fn write(n: usize, t: u32, rates: &[u16]) -> Writing
                 bytes,
             }
         }
-        Verdict::Refused(refusal) => no_file(refusal),
+        Err(refusal) => no_file(refusal),
     }
 }

@@ -5,9 +5,8 @@ use mathlib.Core.Bool.{Bool, true, false, not, ◌&&◌, ◌||◌}
 use native.Mathlib.Omega.{arith}
 use lib.Dec.{eqb}
 use borrow.Author.Tests.{eqb-true, eq-eqb}
-use Rattle.refusal.specs.Chain.{if_accepted}
-use Rattle.refusal.specs.declared.Verdict.{Verdict}
-use Rattle.refusal.specs.declared.Verdict.TheVariants.{Accepted, Refused}
+use Rattle.refusal.specs.Verdict.{Verdict}
+use Rattle.std.specs.Prelude.{Ok, Err, is_ok}
 use Rattle.plan.specs.Accept.{accept_of}
 use Rattle.plan.specs.declared.Plan.{Plan}
 use Rattle.plan.proofs.BelowLaws.{and_true}
@@ -19,9 +18,9 @@ plan_valid_lem : (p : Plan) → plan_valid p ≡ true → IsPlanOf p
 unfolding plan_valid
 plan_valid_lem p e = accepted p.ports p.frame (plan_rates p) (go (accept_of p.ports p.frame (plan_rates p)) e)
   where
-    go : (v : Verdict) → if_accepted v true false ≡ true → v ≡ Accepted
-    go Accepted e = refl
-    go (Refused r) e = let z : ◌≡◌ {A = ℕ} 0 1 = cc in absurd (omega arith)
+    go : (v : Verdict) → is_ok v ≡ true → v ≡ Ok tt
+    go (Ok _) e = refl
+    go (Err r) e = let z : ◌≡◌ {A = ℕ} 0 1 = cc in absurd (omega arith)
 
 plan_is_valid : (p : Plan) → IsPlanOf p → plan_valid p ≡ true
 unfolding plan_valid

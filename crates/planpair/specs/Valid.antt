@@ -1,13 +1,12 @@
 -- Number 12 of the two plans: "a plan in the state isn't accepted, or the two differ in N or T". "Number 12 judges a
 -- waiting plan only while one waits."
-use Rattle.std.specs.Prelude.{Bool, true, false, not, ◌&&◌, ◌||◌, eqb}
-use Rattle.refusal.specs.Chain.{if_accepted}
+use Rattle.std.specs.Prelude.{Bool, not, ◌&&◌, ◌||◌, eqb, is_ok}
 use Rattle.plan.specs.Accept.{accept_of, IsPlan}
 use Rattle.plan.specs.declared.Plan.{Plan}
 use Rattle.planpair.specs.Rates.{plan_rates}
 
 unfoldable pub plan_valid : Plan → Bool
-plan_valid p = if_accepted (accept_of p.ports p.frame (plan_rates p)) true false
+plan_valid p = is_ok (accept_of p.ports p.frame (plan_rates p))
 
 -- "the two differ in N or T"
 abbrev pub same_ports : Plan → Plan → Bool

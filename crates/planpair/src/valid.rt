@@ -5,7 +5,6 @@ ghost use Rattle.planpair.specs.Valid.{plan_valid, plans_valid};
 
 use plan::acceptance::accept;
 use plan::range::{MOST_FLOWS, ports_in_range};
-use refusal::Verdict;
 
 // N is judged first: the array has N x N rates only up to 16 ports.
 fn plan_valid(n: usize, t: u32, rates: &[u16]) -> bool
@@ -15,11 +14,7 @@ fn plan_valid(n: usize, t: u32, rates: &[u16]) -> bool
     if !ports_in_range(n) {
         return false;
     }
-    let verdict = accept(n, t, &rates[..n * n]);
-    match verdict {
-        Verdict::Accepted => true,
-        Verdict::Refused(_) => false,
-    }
+    accept(n, t, &rates[..n * n]).is_ok()
 }
 
 // N, T and the rates of the running plan, then of the waiting one, which is judged only while one waits.

@@ -8,7 +8,7 @@ use mathlib.Core.List.{List, [], ◌∷◌}
 use lib.ListN.{length}
 use Rattle.refusal.specs.Outcome.{outcome}
 use Rattle.refusal.specs.declared.Refusal.TheVariants.{PortsOutOfRange, FrameOutOfRange, ListLength, RowAboveFrame, ColumnAboveFrame, NotPlanText}
-use Rattle.refusal.specs.declared.Verdict.TheVariants.{Accepted, Refused}
+use Rattle.std.specs.Prelude.{Ok, Err}
 use Rattle.plan.specs.Lines.{row_sum, column_sum}
 use Rattle.plan.specs.Range.{ports_in_range, frame_in_range}
 use Rattle.plan.specs.Accept.{accept_of}
@@ -110,12 +110,12 @@ before = 9 ∷ 9 ∷ 9 ∷ 9 ∷ []
 
 -- 1, 2, 3, 16, 4, 5: each call but the first has right what the one before had wrong; the list is written at last
 order :
-    (read_text_of 17 0 [] [] ≡ outcome (Refused PortsOutOfRange) [])
-    × (read_text_of 2 0 [] [] ≡ outcome (Refused FrameOutOfRange) [])
-    × (read_text_of 2 3 [] [] ≡ outcome (Refused ListLength) [])
-    × (read_text_of 2 3 (ascii "3,1\r\n1,3\n") before ≡ outcome (Refused NotPlanText) before)
-    × (read_text_of 2 3 (ascii "3,1\r\n1,3\r\n") before ≡ outcome (Refused RowAboveFrame) before)
-    × (read_text_of 2 3 (ascii "2,1\r\n2,1\r\n") before ≡ outcome (Refused ColumnAboveFrame) before)
-    × (read_text_of 2 3 (ascii "2,1\r\n1,2\r\n") before ≡ outcome Accepted (2 ∷ 1 ∷ 1 ∷ 2 ∷ []))
+    (read_text_of 17 0 [] [] ≡ outcome (Err PortsOutOfRange) [])
+    × (read_text_of 2 0 [] [] ≡ outcome (Err FrameOutOfRange) [])
+    × (read_text_of 2 3 [] [] ≡ outcome (Err ListLength) [])
+    × (read_text_of 2 3 (ascii "3,1\r\n1,3\n") before ≡ outcome (Err NotPlanText) before)
+    × (read_text_of 2 3 (ascii "3,1\r\n1,3\r\n") before ≡ outcome (Err RowAboveFrame) before)
+    × (read_text_of 2 3 (ascii "2,1\r\n2,1\r\n") before ≡ outcome (Err ColumnAboveFrame) before)
+    × (read_text_of 2 3 (ascii "2,1\r\n1,2\r\n") before ≡ outcome (Ok tt) (2 ∷ 1 ∷ 1 ∷ 2 ∷ []))
 unfolding read_text_of verdict_of skip digits_from number field series ends values_of is_digit ports_in_range frame_in_range accept_of row_sum column_sum
 order = (refl, refl, refl, refl, refl, refl, refl)

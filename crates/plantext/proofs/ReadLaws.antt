@@ -14,7 +14,7 @@ use borrow.Author.Tests.{not-false}
 use Rattle.refusal.specs.Chain.{refuse_if}
 use Rattle.refusal.specs.Outcome.{outcome, written}
 use Rattle.refusal.specs.declared.Refusal.TheVariants.{PortsOutOfRange, FrameOutOfRange, ListLength, RowAboveFrame, ColumnAboveFrame, NotPlanText}
-use Rattle.refusal.specs.declared.Verdict.TheVariants.{Accepted, Refused}
+use Rattle.std.specs.Prelude.{Ok, Err}
 use Rattle.refusal.proofs.ChainLaws.{refuse_passed, refuse_ext}
 use Rattle.plan.specs.Lines.{row_sum, column_sum, is_square}
 use Rattle.plan.specs.Range.{most_ports, ports_in_range, frame_in_range}
@@ -29,7 +29,7 @@ use Rattle.plantext.proofs.TextLaws.{same_rules}
 use Rattle.plantext.proofs.LengthLaws.{text_short, text_counted}
 
 -- what the values of a text decide
-pub none_judged : (n t : ℕ) (text rates : List ℕ) → values_of n text ≡ none → written (judged_of n t text) (values_in n text) rates ≡ outcome (Refused NotPlanText) rates
+pub none_judged : (n t : ℕ) (text rates : List ℕ) → values_of n text ≡ none → written (judged_of n t text) (values_in n text) rates ≡ outcome (Err NotPlanText) rates
 none_judged n t text rates e = rw e refl
 
 pub some_judged : (n t : ℕ) (text rates values : List ℕ) → values_of n text ≡ some values → written (judged_of n t text) (values_in n text) rates ≡ written (accept_of n t values) values rates
@@ -52,7 +52,7 @@ pub verdict_order : (n t : ℕ) (text rates : List ℕ) →
     (refuse_if (not (is_text n text)) NotPlanText
     (refuse_if (not (within_frame (row_sum (values_in n text) n) n t)) RowAboveFrame
     (refuse_if (not (within_frame (column_sum (values_in n text) n) n t)) ColumnAboveFrame
-    Accepted)))))
+    (Ok tt))))))
 unfolding verdict_of
 verdict_order n t text rates =
     refuse_ext (not (ports_in_range n)) PortsOutOfRange λ hn.
@@ -63,16 +63,16 @@ verdict_order n t text rates =
     sums_decide n t (values_in n text) inside (not-false _ ht) (values_counted n text (ports_range n inside).0 (not-false _ h))
 
 -- N is looked at first
-pub ports_decide : (n t : ℕ) (text rates : List ℕ) → ports_in_range n ≡ false → read_text_of n t text rates ≡ outcome (Refused PortsOutOfRange) rates
+pub ports_decide : (n t : ℕ) (text rates : List ℕ) → ports_in_range n ≡ false → read_text_of n t text rates ≡ outcome (Err PortsOutOfRange) rates
 unfolding read_text_of verdict_of
 ports_decide n t text rates e = rw e refl
 
 -- what an accepted call wrote: the values of the text, which are an accepted plan
 pub record Read (n t : ℕ) (text list : List ℕ) : Type 0 where
   pub values : values_of n text ≡ some list
-  pub plan : accept_of n t list ≡ Accepted
+  pub plan : accept_of n t list ≡ Ok tt
 
-pub accepted_text : (n t : ℕ) (text rates : List ℕ) → (read_text_of n t text rates).verdict ≡ Accepted → Read n t text (read_text_of n t text rates).list
+pub accepted_text : (n t : ℕ) (text rates : List ℕ) → (read_text_of n t text rates).verdict ≡ Ok tt → Read n t text (read_text_of n t text rates).list
 unfolding read_text_of verdict_of
 accepted_text n t text rates e =
     let ports = refuse_passed (not (ports_in_range n)) _ _ e in

@@ -5,7 +5,7 @@ use Rattle.std.proofs.Math.Option.{Option, none, some, get_or}
 use Rattle.refusal.specs.Chain.{refuse_if}
 use Rattle.refusal.specs.Outcome.{Outcome, written}
 use Rattle.refusal.specs.declared.Refusal.TheVariants.{PortsOutOfRange, FrameOutOfRange, ListLength, NotPlanText}
-use Rattle.refusal.specs.declared.Verdict.{Verdict}
+use Rattle.refusal.specs.Verdict.{Verdict}
 use Rattle.plan.specs.Range.{most_ports, ports_in_range, frame_in_range}
 use Rattle.plan.specs.Lines.{is_square}
 use Rattle.plan.specs.Accept.{accept_of}

@@ -11,7 +11,7 @@ use crate::records::read_values;
 use plan::acceptance::accept;
 use plan::lists::copy;
 use plan::range::{MOST_FLOWS, MOST_PORTS, frame_in_range, is_square, ports_in_range};
-use refusal::{Refusal, Verdict};
+use refusal::Refusal;
 
 pub mod digit;
 mod records;
@@ -21,28 +21,25 @@ mod scan;
 pub const MOST_TEXT: usize = MOST_FLOWS * 7 + MOST_PORTS * (MOST_PORTS - 1) + MOST_PORTS * 2;
 
 // Writes the values to the list if they are an accepted plan, and answers whether they are.
-fn hand_over(n: usize, t: u32, values: &[u16], rates: &mut [u16]) -> Verdict
+fn hand_over(n: usize, t: u32, values: &[u16], rates: &mut [u16]) -> Result<(), Refusal>
     requires { length rates.old ≡ length values.now }
     ensures { outcome result rates.new ≡ written (accept_of n t values.now) values.now rates.old }
 {
-    let verdict = accept(n, t, values);
-    let Verdict::Accepted = verdict else {
-        return verdict;
-    };
+    accept(n, t, values)?;
     copy(values, rates);
-    verdict
+    Ok(())
 }
 
 // The text's rules and then the sums, for N in range and a list for N ports. The values are kept apart until they are known
 // to be a plan, so that a refused call writes nothing.
-fn read_rates(n: usize, t: u32, text: &[u8], rates: &mut [u16]) -> Verdict
+fn read_rates(n: usize, t: u32, text: &[u8], rates: &mut [u16]) -> Result<(), Refusal>
     requires { (n ≤ most_ports) × (length rates.old ≡ n * n) }
     ensures { outcome result rates.new ≡ written (judged_of n t text.now) (values_in n text.now) rates.old }
 {
     let mut values = [0u16; MOST_FLOWS];
     let flows = n * n;
     if !read_values(text, n, &mut values[..flows]) {
-        return Verdict::Refused(Refusal::NotPlanText);
+        return Err(Refusal::NotPlanText);
     }
     hand_over(n, t, &values[..flows], rates)
 }
@@ -50,17 +47,17 @@ fn read_rates(n: usize, t: u32, text: &[u8], rates: &mut [u16]) -> Verdict
 // Writes the rates of a text to the list, row by row, and answers whether it did: N, T, the list's length, the text's rules,
 // then the sums.
 #[tactic(auto, unfolding(crate::specs::Read::read_text_of, crate::specs::Read::verdict_of))]
-pub fn read_text(n: usize, t: u32, text: &[u8], rates: &mut [u16]) -> Verdict
+pub fn read_text(n: usize, t: u32, text: &[u8], rates: &mut [u16]) -> Result<(), Refusal>
     ensures { outcome result rates.new ≡ read_text_of n t text.now rates.old }
 {
     if !ports_in_range(n) {
-        return Verdict::Refused(Refusal::PortsOutOfRange);
+        return Err(Refusal::PortsOutOfRange);
     }
     if !frame_in_range(t) {
-        return Verdict::Refused(Refusal::FrameOutOfRange);
+        return Err(Refusal::FrameOutOfRange);
     }
     if !is_square(n, rates.len()) {
-        return Verdict::Refused(Refusal::ListLength);
+        return Err(Refusal::ListLength);
     }
     read_rates(n, t, text, rates)
 }

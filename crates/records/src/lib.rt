@@ -14,7 +14,7 @@ use multiplexer::Choice;
 use plan::Plan;
 use plan::range::MOST_PORTS;
 use planfile::Reading;
-use refusal::Verdict;
+use refusal::Refusal;
 
 // The kinds of a port's answer.
 const IDLE: u32 = 0;
@@ -76,10 +76,10 @@ pub struct CoverRecord {
     pub most: Stretch,
 }
 
-pub fn verdict_number(verdict: Verdict) -> u32
+pub fn verdict_number(verdict: Result<(), Refusal>) -> u32
     ensures { result ≡ verdict_number_of verdict }
 {
-    verdict.number() as u32
+    u32::from(refusal::verdict_number(verdict))
 }
 
 fn kind_of(answer: Answer) -> u32

@@ -7,40 +7,40 @@ use native.Mathlib.Omega.{arith}
 use lib.Dec.{eqb}
 use Rattle.refusal.specs.Number.{retired, verdict_number_of}
 use Rattle.refusal.specs.declared.Refusal.TheVariants.{PortsOutOfRange, FrameOutOfRange, ListLength, RowAboveFrame, ColumnAboveFrame, DepthOutOfRange, StoreLength, PlanMismatch, NoSuchPort, QueueFull, StateInvalid, CrosspointFull, NotPlanFile, FileLength, NotPlanText, RecordLength}
-use Rattle.refusal.specs.declared.Verdict.{Verdict}
-use Rattle.refusal.specs.declared.Verdict.TheVariants.{Accepted, Refused}
+use Rattle.refusal.specs.Verdict.{Verdict}
+use Rattle.std.specs.Prelude.{Ok, Err}
 
 -- the verdicts, in any order
 abbrev verdicts : List Verdict
 verdicts =
-    Accepted ∷ Refused PortsOutOfRange ∷ Refused FrameOutOfRange ∷ Refused ListLength ∷ Refused RowAboveFrame ∷ Refused ColumnAboveFrame
-    ∷ Refused DepthOutOfRange ∷ Refused StoreLength ∷ Refused PlanMismatch ∷ Refused NoSuchPort ∷ Refused QueueFull ∷ Refused StateInvalid
-    ∷ Refused CrosspointFull ∷ Refused NotPlanFile ∷ Refused FileLength ∷ Refused NotPlanText ∷ Refused RecordLength ∷ []
+    (Ok tt) ∷ Err PortsOutOfRange ∷ Err FrameOutOfRange ∷ Err ListLength ∷ Err RowAboveFrame ∷ Err ColumnAboveFrame
+    ∷ Err DepthOutOfRange ∷ Err StoreLength ∷ Err PlanMismatch ∷ Err NoSuchPort ∷ Err QueueFull ∷ Err StateInvalid
+    ∷ Err CrosspointFull ∷ Err NotPlanFile ∷ Err FileLength ∷ Err NotPlanText ∷ Err RecordLength ∷ []
 
 -- the first of them that has number k; where none has it, `Accepted`
 abbrev first_with : ℕ → List Verdict → Verdict
-first_with k [] = Accepted
+first_with k [] = Ok tt
 first_with k (v ∷ vs) = cond (eqb (verdict_number_of v) k) v (first_with k vs)
 
 -- no verdict before it shares its number
 is_first : (v : Verdict) → first_with (verdict_number_of v) verdicts ≡ v
-is_first Accepted = refl
-is_first (Refused PortsOutOfRange) = refl
-is_first (Refused FrameOutOfRange) = refl
-is_first (Refused ListLength) = refl
-is_first (Refused RowAboveFrame) = refl
-is_first (Refused ColumnAboveFrame) = refl
-is_first (Refused DepthOutOfRange) = refl
-is_first (Refused StoreLength) = refl
-is_first (Refused PlanMismatch) = refl
-is_first (Refused NoSuchPort) = refl
-is_first (Refused QueueFull) = refl
-is_first (Refused StateInvalid) = refl
-is_first (Refused CrosspointFull) = refl
-is_first (Refused NotPlanFile) = refl
-is_first (Refused FileLength) = refl
-is_first (Refused NotPlanText) = refl
-is_first (Refused RecordLength) = refl
+is_first (Ok _) = refl
+is_first (Err PortsOutOfRange) = refl
+is_first (Err FrameOutOfRange) = refl
+is_first (Err ListLength) = refl
+is_first (Err RowAboveFrame) = refl
+is_first (Err ColumnAboveFrame) = refl
+is_first (Err DepthOutOfRange) = refl
+is_first (Err StoreLength) = refl
+is_first (Err PlanMismatch) = refl
+is_first (Err NoSuchPort) = refl
+is_first (Err QueueFull) = refl
+is_first (Err StateInvalid) = refl
+is_first (Err CrosspointFull) = refl
+is_first (Err NotPlanFile) = refl
+is_first (Err FileLength) = refl
+is_first (Err NotPlanText) = refl
+is_first (Err RecordLength) = refl
 
 by_number : (v : Verdict) {k : ℕ} → verdict_number_of v ≡ k → v ≡ first_with k verdicts
 by_number v e = sym (is_first v) ∙ ap (λ (k : ℕ). first_with k verdicts) e

@@ -1,21 +1,20 @@
 -- How a call arrives at its verdict: conditions are looked at in a fixed order, and the first one
 -- that holds decides.
-use Rattle.std.specs.Prelude.{Bool, true, false}
+use Rattle.std.specs.Prelude.{Bool, true, false, Ok, Err}
 use Rattle.refusal.specs.declared.Refusal.{Refusal}
-use Rattle.refusal.specs.declared.Verdict.{Verdict}
-use Rattle.refusal.specs.declared.Verdict.TheVariants.{Accepted, Refused}
+use Rattle.refusal.specs.Verdict.{Verdict}
 
 -- refused under a condition, and otherwise as the rest of the order says
 abbrev pub refuse_if : Bool → Refusal → Verdict → Verdict
-refuse_if true r rest = Refused r
+refuse_if true r rest = Err r
 refuse_if false r rest = rest
 
 -- the first verdict, if it is a refusal, and otherwise the second
 abbrev pub and_then : Verdict → Verdict → Verdict
-and_then Accepted rest = rest
-and_then (Refused r) rest = Refused r
+and_then (Ok _) rest = rest
+and_then (Err r) rest = Err r
 
 -- the first value where the call was accepted, and the second where it was refused
 abbrev pub if_accepted : {A : Type 0} → Verdict → A → A → A
-if_accepted Accepted x y = x
-if_accepted (Refused r) x y = y
+if_accepted (Ok _) x y = x
+if_accepted (Err r) x y = y

@@ -1,3 +1,4 @@
+pub mod Verdict
 pub mod Number
 pub mod Chain
 pub mod Outcome

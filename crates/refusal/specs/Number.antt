@@ -1,10 +1,9 @@
 -- The number of each refusal, from the scope's table "What is sent back" and, from 16 on, from the change requests. Only
 -- this file and the function `number` have these numbers; all others use the names.
-use Rattle.std.specs.Prelude.{ℕ}
+use Rattle.std.specs.Prelude.{ℕ, Ok, Err}
 use Rattle.refusal.specs.declared.Refusal.{Refusal}
 use Rattle.refusal.specs.declared.Refusal.TheVariants.{PortsOutOfRange, FrameOutOfRange, ListLength, RowAboveFrame, ColumnAboveFrame, DepthOutOfRange, StoreLength, PlanMismatch, NoSuchPort, QueueFull, StateInvalid, CrosspointFull, NotPlanFile, FileLength, NotPlanText, RecordLength}
-use Rattle.refusal.specs.declared.Verdict.{Verdict}
-use Rattle.refusal.specs.declared.Verdict.TheVariants.{Accepted, Refused}
+use Rattle.refusal.specs.Verdict.{Verdict}
 
 abbrev pub number_of : Refusal → ℕ
 number_of PortsOutOfRange = 1
@@ -30,5 +29,5 @@ retired = 9
 
 -- A verdict's number is its refusal's; 0, which the table leaves free, stands for "accepted".
 abbrev pub verdict_number_of : Verdict → ℕ
-verdict_number_of Accepted = 0
-verdict_number_of (Refused r) = number_of r
+verdict_number_of (Ok _) = 0
+verdict_number_of (Err r) = number_of r

@@ -1,7 +1,7 @@
 -- The outcome of a call that writes a lent list: its verdict, and the list as the call leaves it.
 use Rattle.std.specs.Prelude.{ℕ, List}
 use Rattle.refusal.specs.Chain.{if_accepted}
-use Rattle.refusal.specs.declared.Verdict.{Verdict}
+use Rattle.refusal.specs.Verdict.{Verdict}
 
 pub record Outcome : Type 0 where
   pub verdict : Verdict

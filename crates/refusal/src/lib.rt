@@ -1,4 +1,4 @@
-// Why a call is refused, and the verdict of a call.
+// Why a call is refused. A call that can be refused gives `Result<(), Refusal>`, the verdict.
 #![tactic(auto)]
 
 ghost use Rattle.std.specs.Prelude.{◌≡◌};
@@ -6,7 +6,7 @@ ghost use Rattle.refusal.specs.Number.{number_of, verdict_number_of};
 
 // A case for each row of the scope's table "What is sent back", and for each number that a change request adds. Row 9 has none:
 // since request L5 a load is accepted while a plan waits.
-#[derive(Drop)]
+#[derive(Clone, Copy, Debug, PartialEq, Eq)]
 pub enum Refusal {
     // N is outside 1 to MOST_PORTS
     PortsOutOfRange,
@@ -42,13 +42,6 @@ pub enum Refusal {
     RecordLength,
 }
 
-// What a call answers: it was done, or it was refused for one reason.
-#[derive(Drop)]
-pub enum Verdict {
-    Accepted,
-    Refused(Refusal),
-}
-
 impl Refusal {
     // The number of a refusal in the scope's table.
     pub fn number(self) -> u8
@@ -75,14 +68,12 @@ impl Refusal {
     }
 }
 
-impl Verdict {
-    // The number of the refusal, or 0 for a call that was accepted.
-    pub fn number(self) -> u8
-        ensures { result ≡ verdict_number_of self }
-    {
-        match self {
-            Verdict::Accepted => 0,
-            Verdict::Refused(refusal) => refusal.number(),
-        }
+// The number of the refusal, or 0 for a call that was accepted.
+pub fn verdict_number(verdict: Result<(), Refusal>) -> u8
+    ensures { result ≡ verdict_number_of verdict }
+{
+    match verdict {
+        Ok(()) => 0,
+        Err(refusal) => refusal.number(),
     }
 }

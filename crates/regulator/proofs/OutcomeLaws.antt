@@ -7,14 +7,14 @@ use lib.Dec.{eqb}
 use borrow.Author.Tests.{eqb-true, eq-eqb, not-false}
 use Rattle.refusal.proofs.ChainLaws.{refuse_passed}
 use Rattle.refusal.specs.declared.Refusal.{Refusal}
-use Rattle.refusal.specs.declared.Verdict.{Verdict}
-use Rattle.refusal.specs.declared.Verdict.TheVariants.{Accepted, Refused}
+use Rattle.refusal.specs.Verdict.{Verdict}
+use Rattle.std.specs.Prelude.{Ok, Err}
 use Rattle.plan.specs.Range.{ports_in_range, frame_in_range}
 use Rattle.plan.proofs.BelowLaws.{and_true}
 use Rattle.plan.proofs.RangeLaws.{ports_range, frame_range, ports_in_lem, frame_in_lem}
 use Rattle.regulator.specs.Outcome.{outcome, written, lists_of, Checked}
 
-pub lists_passed : (n t from to : ℕ) → lists_of n t from to ≡ Accepted → Checked n t from to
+pub lists_passed : (n t from to : ℕ) → lists_of n t from to ≡ Ok tt → Checked n t from to
 unfolding lists_of
 lists_passed n t from to e =
     let first = refuse_passed (not (ports_in_range n)) _ _ e in
@@ -32,7 +32,7 @@ lists_passed n t from to e =
       to_square = eqb-true to (n * n) lengths.1;
     }
 
-pub lists_pass : (n t from to : ℕ) → Checked n t from to → lists_of n t from to ≡ Accepted
+pub lists_pass : (n t from to : ℕ) → Checked n t from to → lists_of n t from to ≡ Ok tt
 unfolding lists_of
 lists_pass n t from to h =
     simp (
@@ -42,8 +42,8 @@ lists_pass n t from to h =
       eq-eqb to (n * n) h.to_square,
     )
 
-pub refused_outcome : (verdict : Verdict) (r : Refusal) (result before : List ℕ) → verdict ≡ Refused r → outcome (Refused r) before ≡ written verdict result before
+pub refused_outcome : (verdict : Verdict) (r : Refusal) (result before : List ℕ) → verdict ≡ Err r → outcome (Err r) before ≡ written verdict result before
 refused_outcome verdict r result before e = rw e
 
-pub done_outcome : (verdict : Verdict) (result before : List ℕ) → verdict ≡ Accepted → outcome Accepted result ≡ written verdict result before
+pub done_outcome : (verdict : Verdict) (result before : List ℕ) → verdict ≡ Ok tt → outcome (Ok tt) result ≡ written verdict result before
 done_outcome verdict result before e = rw e

@@ -9,7 +9,7 @@ use Rattle.refusal.specs.Chain.{refuse_if}
 use Rattle.refusal.proofs.ChainLaws.{then_passed}
 use Rattle.refusal.specs.declared.Refusal.{Refusal}
 use Rattle.refusal.specs.declared.Refusal.TheVariants.{RowAboveFrame, ColumnAboveFrame}
-use Rattle.refusal.specs.declared.Verdict.TheVariants.{Accepted, Refused}
+use Rattle.std.specs.Prelude.{Ok, Err}
 use Rattle.plan.specs.Lines.{row_sum, column_sum}
 use Rattle.plan.specs.Accept.{within_frame, accept_of}
 use Rattle.plan.proofs.BelowLaws.{all_ext}
@@ -22,13 +22,13 @@ use Rattle.regulator.proofs.OutcomeLaws.{lists_passed, lists_pass}
 
 -- the verdict where the first checks refuse, and where they pass, from the kept sums
 
-pub lists_refused : (n t : ℕ) (given rates : List ℕ) (r : Refusal) → lists_of n t (length given) (length rates) ≡ Refused r → boost_verdict n t given rates ≡ Refused r
+pub lists_refused : (n t : ℕ) (given rates : List ℕ) (r : Refusal) → lists_of n t (length given) (length rates) ≡ Err r → boost_verdict n t given rates ≡ Err r
 unfolding boost_verdict
 lists_refused n t given rates r e = rw e
 
-pub sums_verdict : (n t : ℕ) (given rates rows columns : List ℕ) → lists_of n t (length given) (length rates) ≡ Accepted → LineSums given n rows columns
+pub sums_verdict : (n t : ℕ) (given rates rows columns : List ℕ) → lists_of n t (length given) (length rates) ≡ Ok tt → LineSums given n rows columns
     → boost_verdict n t given rates
-    ≡ refuse_if (not (within_frame (λ k. get_or rows k 0) n t)) RowAboveFrame (refuse_if (not (within_frame (λ k. get_or columns k 0) n t)) ColumnAboveFrame Accepted)
+    ≡ refuse_if (not (within_frame (λ k. get_or rows k 0) n t)) RowAboveFrame (refuse_if (not (within_frame (λ k. get_or columns k 0) n t)) ColumnAboveFrame (Ok tt))
 unfolding boost_verdict
 sums_verdict n t given rates rows columns e s =
     let h = lists_passed n t (length given) (length rates) e in
@@ -40,13 +40,13 @@ sums_verdict n t given rates rows columns e s =
     )
 
 -- who gets Accepted: an accepted plan, with an output list of its length; and nobody else
-pub boost_taken : (n t : ℕ) (given rates : List ℕ) → boost_verdict n t given rates ≡ Accepted → (accept_of n t given ≡ Accepted) × (length rates ≡ n * n)
+pub boost_taken : (n t : ℕ) (given rates : List ℕ) → boost_verdict n t given rates ≡ Ok tt → (accept_of n t given ≡ Ok tt) × (length rates ≡ n * n)
 unfolding boost_verdict
 boost_taken n t given rates e =
     let both = then_passed (lists_of n t (length given) (length rates)) (accept_of n t given) e in
     (both.1, (lists_passed n t (length given) (length rates) both.0).to_square)
 
-pub boost_done : (n t : ℕ) (given rates : List ℕ) → accept_of n t given ≡ Accepted → length rates ≡ n * n → boost_verdict n t given rates ≡ Accepted
+pub boost_done : (n t : ℕ) (given rates : List ℕ) → accept_of n t given ≡ Ok tt → length rates ≡ n * n → boost_verdict n t given rates ≡ Ok tt
 unfolding boost_verdict
 boost_done n t given rates e h =
     let p = accepted n t given e in

@@ -1,10 +1,9 @@
 -- Boost: "for each i, the rate at (i, (i + k) mod N) grows by T less the larger of its present row sum and column
 -- sum. Boost takes accepted plans only; afterwards every row and column sums to T." Those places are diagonal k, and
 -- "Boost now takes a 32-bit period number p and goes through diagonals (p + k) mod N for k = 0 to N − 1."
-use Rattle.std.specs.Prelude.{ℕ, zero, suc, ◌+◌, ◌-◌, ◌*◌, ◌%◌, ◌<◌, ◌≤◌, List, ◌≡◌, length, get_or, set}
+use Rattle.std.specs.Prelude.{ℕ, zero, suc, ◌+◌, ◌-◌, ◌*◌, ◌%◌, ◌<◌, ◌≤◌, List, ◌≡◌, length, get_or, set, Ok}
 use Rattle.refusal.specs.Chain.{and_then}
-use Rattle.refusal.specs.declared.Verdict.{Verdict}
-use Rattle.refusal.specs.declared.Verdict.TheVariants.{Accepted}
+use Rattle.refusal.specs.Verdict.{Verdict}
 use Rattle.plan.specs.Lines.{flow_of, row_sum, column_sum}
 use Rattle.plan.specs.Accept.{accept_of}
 use Rattle.regulator.specs.Outcome.{Outcome, written, lists_of}
@@ -49,12 +48,12 @@ boost_of n t p given rates = written (boost_verdict n t given rates) (boosted_of
 
 -- What boost makes of an accepted plan.
 pub record Boosted (n t : ℕ) (given : List ℕ) (out : Outcome) : Type 0 where
-  pub done : out.verdict ≡ Accepted
+  pub done : out.verdict ≡ Ok tt
   pub rows : (i : ℕ) → i < n → row_sum out.list n i ≡ t
   pub columns : (j : ℕ) → j < n → column_sum out.list n j ≡ t
-  pub plan : accept_of n t out.list ≡ Accepted
+  pub plan : accept_of n t out.list ≡ Ok tt
   pub above : (place : ℕ) → get_or given place 0 ≤ get_or out.list place 0
 
 -- in every period, for every accepted plan and every output list of its length (proofs/BoostLaws.antt, boosted_plan)
 abbrev pub BoostedPlan : Type 0
-BoostedPlan = (n t p : ℕ) (given rates : List ℕ) → accept_of n t given ≡ Accepted → length rates ≡ n * n → Boosted n t given (boost_of n t p given rates)
+BoostedPlan = (n t p : ℕ) (given rates : List ℕ) → accept_of n t given ≡ Ok tt → length rates ≡ n * n → Boosted n t given (boost_of n t p given rates)

@@ -1,6 +1,5 @@
 -- What a period number does: how much of it counts, which diagonal it puts first, and what that diagonal gains by it.
-use Rattle.std.specs.Prelude.{ℕ, ◌+◌, ◌*◌, ◌%◌, ◌<◌, ◌≤◌, List, ◌≡◌, length, get_or}
-use Rattle.refusal.specs.declared.Verdict.TheVariants.{Accepted}
+use Rattle.std.specs.Prelude.{ℕ, ◌+◌, ◌*◌, ◌%◌, ◌<◌, ◌≤◌, List, ◌≡◌, length, get_or, Ok}
 use Rattle.plan.specs.Lines.{flow_of}
 use Rattle.plan.specs.Accept.{accept_of}
 use Rattle.regulator.specs.Outcome.{Outcome, written}
@@ -39,4 +38,4 @@ pub record Gains (n t p : ℕ) (given : List ℕ) (out : Outcome) : Type 0 where
 
 -- for every accepted plan and every output list of its length (proofs/GainLaws.antt, first_gains)
 abbrev pub FirstGains : Type 0
-FirstGains = (n t p : ℕ) (given rates : List ℕ) → accept_of n t given ≡ Accepted → length rates ≡ n * n → Gains n t p given (boost_of n t p given rates)
+FirstGains = (n t p : ℕ) (given rates : List ℕ) → accept_of n t given ≡ Ok tt → length rates ≡ n * n → Gains n t p given (boost_of n t p given rates)

@@ -1,7 +1,6 @@
 -- Scale: "from demands of 16 bits, the rate is d × T divided by the larger of its row and column sum of
 -- demands, rounded down; where d is 0 the rate is 0."
-use Rattle.std.specs.Prelude.{ℕ, ◌*◌, ◌/◌, ◌%◌, cond, List, ◌≡◌, eqb, length, get_or}
-use Rattle.refusal.specs.declared.Verdict.TheVariants.{Accepted}
+use Rattle.std.specs.Prelude.{ℕ, ◌*◌, ◌/◌, ◌%◌, cond, List, ◌≡◌, eqb, length, get_or, Ok}
 use Rattle.plan.specs.Below.{list_below}
 use Rattle.plan.specs.Accept.{accept_of}
 use Rattle.regulator.specs.Outcome.{Outcome, written, lists_of}
@@ -24,4 +23,4 @@ scale_of n t demands rates = written (lists_of n t (length demands) (length rate
 
 -- What scale writes is an accepted plan, whatever the demands (proofs/ScaleLaws.antt, scaled_plan).
 abbrev pub ScaledPlan : Type 0
-ScaledPlan = (n t : ℕ) (demands rates : List ℕ) → (scale_of n t demands rates).verdict ≡ Accepted → accept_of n t (scale_of n t demands rates).list ≡ Accepted
+ScaledPlan = (n t : ℕ) (demands rates : List ℕ) → (scale_of n t demands rates).verdict ≡ Ok tt → accept_of n t (scale_of n t demands rates).list ≡ Ok tt

@@ -11,7 +11,7 @@ use crate::lists::check_lists;
 use crate::sums::{Sums, larger, sums_of};
 use plan::lists::copy;
 use plan::range::MOST_PORTS;
-use refusal::{Refusal, Verdict};
+use refusal::Refusal;
 
 // Whether none of the n sums is above t.
 fn sums_fit(sums: [u32; MOST_PORTS], n: usize, t: u32) -> bool
@@ -82,23 +82,20 @@ fn boost_diagonals(n: usize, t: u32, period: u32, sums: Sums, rates: &mut [u16])
 }
 
 // Writes the given plan with its spare slots given out, and answers whether it did.
-pub fn boost(n: usize, t: u32, period: u32, given: &[u16], rates: &mut [u16]) -> Verdict
+pub fn boost(n: usize, t: u32, period: u32, given: &[u16], rates: &mut [u16]) -> Result<(), Refusal>
     ensures { outcome result rates.new ≡ boost_of n t period given.now rates.old }
 {
-    let verdict = check_lists(n, t, given.len(), rates.len());
-    let Verdict::Accepted = verdict else {
-        return verdict;
-    };
+    check_lists(n, t, given.len(), rates.len())?;
     let sums = sums_of(given, n);
     let rows = sums.rows;
     if !sums_fit(rows, n, t) {
-        return Verdict::Refused(Refusal::RowAboveFrame);
+        return Err(Refusal::RowAboveFrame);
     }
     let columns = sums.columns;
     if !sums_fit(columns, n, t) {
-        return Verdict::Refused(Refusal::ColumnAboveFrame);
+        return Err(Refusal::ColumnAboveFrame);
     }
     copy(given, rates);
     boost_diagonals(n, t, period, sums, rates);
-    verdict
+    Ok(())
 }

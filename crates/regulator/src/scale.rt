@@ -6,7 +6,7 @@ ghost use Rattle.regulator.specs.Scale.{share_of, scaled_of, scale_of};
 
 use crate::lists::check_lists;
 use crate::sums::{larger, sums_of};
-use refusal::Verdict;
+use refusal::Refusal;
 
 // The rate of a demand; `sum` is the larger of its two sums.
 fn share(d: u16, t: u32, sum: u32) -> u16
@@ -35,13 +35,10 @@ fn scale_places(n: usize, t: u32, demands: &[u16], rates: &mut [u16])
 
 // Writes the rates of the demands, and answers whether it did.
 #[tactic(auto, using(crate::proofs::OutcomeLaws::lists_passed), unfolding(crate::specs::Scale::scale_of))]
-pub fn scale(n: usize, t: u32, demands: &[u16], rates: &mut [u16]) -> Verdict
+pub fn scale(n: usize, t: u32, demands: &[u16], rates: &mut [u16]) -> Result<(), Refusal>
     ensures { outcome result rates.new ≡ scale_of n t demands.now rates.old }
 {
-    let verdict = check_lists(n, t, demands.len(), rates.len());
-    let Verdict::Accepted = verdict else {
-        return verdict;
-    };
+    check_lists(n, t, demands.len(), rates.len())?;
     scale_places(n, t, demands, rates);
-    verdict
+    Ok(())
 }

@@ -10,8 +10,8 @@ use lib.Dec.{eqb}
 use lib.ListN.{length, set, length-set}
 use lib.Seq.{get_or-set_same, get_or-set_other}
 use borrow.Author.Tests.{eqb-true, eq-eqb}
-use Rattle.refusal.specs.declared.Verdict.{Verdict}
-use Rattle.refusal.specs.declared.Verdict.TheVariants.{Accepted, Refused}
+use Rattle.refusal.specs.Verdict.{Verdict}
+use Rattle.std.specs.Prelude.{Ok, Err}
 use Rattle.plan.specs.Lines.{flow_of}
 use Rattle.plan.proofs.LineLaws.{flow_below, flow_one, square_small, row_within}
 use Rattle.fabric.specs.Flow.{no_queue, cell_place}
@@ -132,11 +132,11 @@ module _ {s : Switch} {store : List ℕ} (ok : Sound s store) (p q cell : ℕ) w
   arrive_own_keeps = go (arrive_verdict s (length store) p q) refl
     where
       go : (v : Verdict) → arrive_verdict s (length store) p q ≡ v → Kept (answered s store (arrive own p q cell))
-      go Accepted e = rw e (sound_arrive ok p q cell (can_arrive s (length store) p q e))
-      go (Refused r) e = rw e ok
+      go (Ok _) e = rw e (sound_arrive ok p q cell (can_arrive s (length store) p q e))
+      go (Err r) e = rw e ok
 
   -- a list of another length is refused
-  other_refused : (l : List ℕ) → OtherLength l store → arrive_verdict s (length l) p q ≡ Accepted → ⊥
+  other_refused : (l : List ℕ) → OtherLength l store → arrive_verdict s (length l) p q ≡ Ok tt → ⊥
   other_refused l ne e = ne ((can_arrive s (length l) p q e).store ∙ sym ok.store_size)
 
   pub arrive_other_keeps : (l : List ℕ) → OtherLength l store → Kept (answered s store (arrive (other l) p q cell))
@@ -144,8 +144,8 @@ module _ {s : Switch} {store : List ℕ} (ok : Sound s store) (p q cell : ℕ) w
   arrive_other_keeps l ne = go (arrive_verdict s (length l) p q) refl
     where
       go : (v : Verdict) → arrive_verdict s (length l) p q ≡ v → Kept (answered s store (arrive (other l) p q cell))
-      go Accepted e = absurd (other_refused l ne e)
-      go (Refused r) e = rw e ok
+      go (Ok _) e = absurd (other_refused l ne e)
+      go (Err r) e = rw e ok
 
   module _ (i j : ℕ) (hi : i < s.running.ports) (hj : j < s.running.ports) where
     abbrev Law : Event → Type 0
@@ -156,7 +156,7 @@ module _ {s : Switch} {store : List ℕ} (ok : Sound s store) (p q cell : ℕ) w
     arrive_own_law = go (arrive_verdict s (length store) p q) refl
       where
         go : (v : Verdict) → arrive_verdict s (length store) p q ≡ v → Law (answered s store (arrive own p q cell))
-        go Accepted e =
+        go (Ok _) e =
             rw e (
             record {
               ledger = ledger_still s.running.ports s.running.frame i j s _ _ refl refl refl refl refl refl refl refl refl;
@@ -165,12 +165,12 @@ module _ {s : Switch} {store : List ℕ} (ok : Sound s store) (p q cell : ℕ) w
               queue = queue_arrive ok p q cell (can_arrive s (length store) p q e) i j hi hj;
             }
             )
-        go (Refused r) e = rw e (refused_law ok i j hi hj _ refl refl (refused_arrival i j _ p q cell r s _))
+        go (Err r) e = rw e (refused_law ok i j hi hj _ refl refl (refused_arrival i j _ p q cell r s _))
 
     pub arrive_other_law : (l : List ℕ) → OtherLength l store → Law (answered s store (arrive (other l) p q cell))
     unfolding arrive_of
     arrive_other_law l ne = go (arrive_verdict s (length l) p q) refl
       where
         go : (v : Verdict) → arrive_verdict s (length l) p q ≡ v → Law (answered s store (arrive (other l) p q cell))
-        go Accepted e = absurd (other_refused l ne e)
-        go (Refused r) e = rw e (refused_law ok i j hi hj _ refl refl (refused_arrival i j _ p q cell r s _))
+        go (Ok _) e = absurd (other_refused l ne e)
+        go (Err r) e = rw e (refused_law ok i j hi hj _ refl refl (refused_arrival i j _ p q cell r s _))

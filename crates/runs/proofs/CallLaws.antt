@@ -3,8 +3,8 @@ use Prim.Native.Nat.{ℕ, ◌<◌}
 use mathlib.Core.Path.{◌≡◌, refl, sym, subst}
 use mathlib.Core.List.{List}
 use lib.ListN.{length}
-use Rattle.refusal.specs.declared.Verdict.{Verdict}
-use Rattle.refusal.specs.declared.Verdict.TheVariants.{Accepted, Refused}
+use Rattle.refusal.specs.Verdict.{Verdict}
+use Rattle.std.specs.Prelude.{Ok, Err}
 use Rattle.crossbar.specs.Arrive.{arrive_verdict, arrive_of}
 use Rattle.crossbar.specs.Load.{load_verdict, load_of}
 use Rattle.crossbar.specs.Step.{after_slot, step_verdict, step_of}
@@ -43,24 +43,24 @@ module _ (s : Switch) (store : List ℕ) where
   arrive_same lent i j cell = go (arrive_verdict s (length lent) i j) refl
     where
       go : (v : Verdict) → arrive_verdict s (length lent) i j ≡ v → SameFrame (arrive_of s lent i j cell).reply.state
-      go Accepted e = rw e (refl, refl)
-      go (Refused r) e = rw e (refl, refl)
+      go (Ok _) e = rw e (refl, refl)
+      go (Err r) e = rw e (refl, refl)
 
   load_same : (n t : ℕ) (rates : List ℕ) → SameFrame (load_of s n t rates).state
   unfolding load_of
   load_same n t rates = go (load_verdict s n t rates) refl
     where
       go : (v : Verdict) → load_verdict s n t rates ≡ v → SameFrame (load_of s n t rates).state
-      go Accepted e = rw e (refl, refl)
-      go (Refused r) e = rw e (refl, refl)
+      go (Ok _) e = rw e (refl, refl)
+      go (Err r) e = rw e (refl, refl)
 
   step_same : Sound s store → (lent : List ℕ) → SameFrame (step_of s lent).state
   unfolding step_of after_slot
   step_same ok lent = go (step_verdict s (length lent)) refl
     where
       go : (v : Verdict) → step_verdict s (length lent) ≡ v → SameFrame (step_of s lent).state
-      go Accepted e = rw e ((takeover_sound ok).1.ports, (takeover_sound ok).1.frame)
-      go (Refused r) e = rw e (refl, refl)
+      go (Ok _) e = rw e ((takeover_sound ok).1.ports, (takeover_sound ok).1.frame)
+      go (Err r) e = rw e (refl, refl)
 
 pub call_keeps : (s : Switch) (store : List ℕ) → Sound s store → (c : Call) → Allowed store c → Keeps s store (answered s store c)
 unfolding step_of arrive_of load_of

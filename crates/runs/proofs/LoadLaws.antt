@@ -3,8 +3,8 @@ use Prim.Native.Nat.{ℕ, ◌*◌, ◌<◌}
 use mathlib.Core.Path.{◌≡◌, refl, sym, ◌∙◌}
 use mathlib.Core.List.{List}
 use native.Mathlib.Omega.{arith}
-use Rattle.refusal.specs.declared.Verdict.{Verdict}
-use Rattle.refusal.specs.declared.Verdict.TheVariants.{Accepted, Refused}
+use Rattle.refusal.specs.Verdict.{Verdict}
+use Rattle.std.specs.Prelude.{Ok, Err}
 use Rattle.plan.specs.declared.Plan.{Plan}
 use Rattle.plan.proofs.LineLaws.{square_small}
 use Rattle.planpair.specs.Rates.{overlaid}
@@ -59,8 +59,8 @@ module _ {s : Switch} {store : List ℕ} (ok : Sound s store) (n t : ℕ) (rates
   load_keeps = go (load_verdict s n t rates) refl
     where
       go : (v : Verdict) → load_verdict s n t rates ≡ v → Kept (answered s store (load n t rates))
-      go Accepted e = rw e (sound_load (can_load s n t rates e))
-      go (Refused r) e = rw e ok
+      go (Ok _) e = rw e (sound_load (can_load s n t rates e))
+      go (Err r) e = rw e ok
 
   module _ (i j : ℕ) (hi : i < s.running.ports) (hj : j < s.running.ports) where
     abbrev Law : Event → Type 0
@@ -71,5 +71,5 @@ module _ {s : Switch} {store : List ℕ} (ok : Sound s store) (n t : ℕ) (rates
     load_law = go (load_verdict s n t rates) refl
       where
         go : (v : Verdict) → load_verdict s n t rates ≡ v → Law (answered s store (load n t rates))
-        go Accepted e = rw e (quiet_law ok i j hi hj _ s.running loaded_plan 1 refl refl (any_load i j n t rates _))
-        go (Refused r) e = rw e (quiet_law ok i j hi hj _ s.running s.waiting s.waits refl refl (any_load i j n t rates _))
+        go (Ok _) e = rw e (quiet_law ok i j hi hj _ s.running loaded_plan 1 refl refl (any_load i j n t rates _))
+        go (Err r) e = rw e (quiet_law ok i j hi hj _ s.running s.waiting s.waits refl refl (any_load i j n t rates _))

@@ -6,8 +6,8 @@ use mathlib.Core.List.{List}
 use lib.ListN.{length}
 use borrow.Author.Tests.{eq-eqb, ne_eqb}
 use Rattle.refusal.specs.Chain.{if_accepted}
-use Rattle.refusal.specs.declared.Verdict.{Verdict}
-use Rattle.refusal.specs.declared.Verdict.TheVariants.{Accepted, Refused}
+use Rattle.refusal.specs.Verdict.{Verdict}
+use Rattle.std.specs.Prelude.{Ok, Err}
 use Rattle.planpair.specs.Rates.{plan_rates}
 use Rattle.planpair.proofs.RateLaws.{laid_rates}
 use Rattle.planpair.proofs.TakeoverLaws.{taken_rates}
@@ -37,8 +37,8 @@ arrive_only s lent i j cell = go (arrive_verdict s (length lent) i j) refl
   where
     go : (v : Verdict) → arrive_verdict s (length lent) i j ≡ v
         → let u = (arrive_of s lent i j cell).reply.state in u ≡ with_queues s u.fabric.queues
-    go Accepted e = rw e refl
-    go (Refused r) e = rw e refl
+    go (Ok _) e = rw e refl
+    go (Err r) e = rw e refl
 
 module _ {s : Switch} {store : List ℕ} (ok : Sound s store) where
   takeover_standing : standing (takeover_of s) ≡ standing s
@@ -63,7 +63,7 @@ module _ {s : Switch} {store : List ℕ} (ok : Sound s store) where
       go true e = rw (taken s (here e)) refl
 
   -- in slot 0 the plan accepted last runs
-  step_runs : (lent : List ℕ) → s.slot ≡ 0 → (step_of s lent).verdict ≡ Accepted → plan_rates (step_of s lent).state.running ≡ standing s
+  step_runs : (lent : List ℕ) → s.slot ≡ 0 → (step_of s lent).verdict ≡ Ok tt → plan_rates (step_of s lent).state.running ≡ standing s
   unfolding step_of after_slot
   step_runs lent zero e =
       let running : plan_rates (takeover_of s).running ≡ standing (takeover_of s) = rw (none_waits_lem zero) refl in
@@ -74,16 +74,16 @@ module _ {s : Switch} {store : List ℕ} (ok : Sound s store) where
   step_standing lent = go (step_verdict s (length lent)) refl
     where
       go : (v : Verdict) → step_verdict s (length lent) ≡ v → standing (step_of s lent).state ≡ standing s
-      go Accepted e = rw e takeover_standing
-      go (Refused r) e = rw e refl
+      go (Ok _) e = rw e takeover_standing
+      go (Err r) e = rw e refl
 
   load_standing : (n t : ℕ) (rates : List ℕ) → standing (load_of s n t rates).state ≡ if_accepted (load_verdict s n t rates) rates (standing s)
   unfolding load_of
   load_standing n t rates = go (load_verdict s n t rates) refl
     where
       go : (v : Verdict) → load_verdict s n t rates ≡ v → standing (load_of s n t rates).state ≡ if_accepted (load_verdict s n t rates) rates (standing s)
-      go Accepted e = rw e (laid_rates s.waiting.rates n t rates ok.waiting_size (can_load s n t rates e).plan)
-      go (Refused r) e = rw e refl
+      go (Ok _) e = rw e (laid_rates s.waiting.rates n t rates ok.waiting_size (can_load s n t rates e).plan)
+      go (Err r) e = rw e refl
 
   pub call_runs : (c : Call) → BeginsFrame s (answered s store c) → plan_rates (state_after (answered s store c)).running ≡ standing s
   call_runs (step own) b = step_runs store b.1 b.0
@@ -102,23 +102,23 @@ module _ {s : Switch} {store : List ℕ} (ok : Sound s store) where
 
 -- The running plan stays, but in slot 0.
 module _ (s : Switch) (store : List ℕ) where
-  step_stays : (lent : List ℕ) → ((step_of s lent).verdict ≡ Accepted → s.slot ≡ 0 → ⊥) → (step_of s lent).state.running ≡ s.running
+  step_stays : (lent : List ℕ) → ((step_of s lent).verdict ≡ Ok tt → s.slot ≡ 0 → ⊥) → (step_of s lent).state.running ≡ s.running
   unfolding step_of after_slot
   step_stays lent h = go (step_verdict s (length lent)) refl
     where
       go : (v : Verdict) → step_verdict s (length lent) ≡ v → (step_of s lent).state.running ≡ s.running
-      go Accepted e =
+      go (Ok _) e =
           let not_here : takes_over s ≡ false = rw (ne_eqb s.slot 0 (h e)) refl in
           rw (e, not_taken s not_here) refl
-      go (Refused r) e = rw e refl
+      go (Err r) e = rw e refl
 
   load_stays : (n t : ℕ) (rates : List ℕ) → (load_of s n t rates).state.running ≡ s.running
   unfolding load_of
   load_stays n t rates = go (load_verdict s n t rates) refl
     where
       go : (v : Verdict) → load_verdict s n t rates ≡ v → (load_of s n t rates).state.running ≡ s.running
-      go Accepted e = rw e refl
-      go (Refused r) e = rw e refl
+      go (Ok _) e = rw e refl
+      go (Err r) e = rw e refl
 
   pub call_stays : (c : Call) → (BeginsFrame s (answered s store c) → ⊥) → (state_after (answered s store c)).running ≡ s.running
   call_stays (step own) h = step_stays store (λ e z. h (e, z))

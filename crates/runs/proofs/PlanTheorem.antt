@@ -2,7 +2,7 @@
 use Prim.Native.Nat.{ℕ}
 use mathlib.Core.Path.{◌≡◌, refl, ap, sym, subst, ◌∙◌}
 use mathlib.Core.List.{List, [], ◌∷◌, ◌++◌}
-use Rattle.refusal.specs.declared.Verdict.TheVariants.{Accepted}
+use Rattle.std.specs.Prelude.{Ok}
 use Rattle.planpair.specs.Rates.{plan_rates}
 use Rattle.crossbar.specs.Start.{fresh_with}
 use Rattle.crossbar.specs.Load.{load_of}
@@ -94,7 +94,7 @@ module _ (run : Run) where
     parts_between : Follow r.state left between × Follow (final_state r.state between) (final_store left between) (loaded m u second q ∷ after)
     parts_between = follow_append r.state left between (loaded m u second q ∷ after) rest.1
 
-    never_ran : r.verdict ≡ Accepted → StillWaits r.state between → q.verdict ≡ Accepted → NeverRan found left n t first between m u second q
+    never_ran : r.verdict ≡ Ok tt → StillWaits r.state between → q.verdict ≡ Ok tt → NeverRan found left n t first between m u second q
     never_ran e still f =
         let accepted = load_told found n t first rest.0 e in
         let can = can_load found n t first accepted in

@@ -6,7 +6,7 @@ use native.Mathlib.Omega.{arith}
 use Rattle.plan.specs.Range.{most_ports}
 use Rattle.side.proofs.ListLaws.{get_d_repeated}
 use Rattle.refusal.specs.declared.Refusal.{Refusal}
-use Rattle.refusal.specs.declared.Verdict.TheVariants.{Refused}
+use Rattle.std.specs.Prelude.{Err}
 use Rattle.plan.specs.declared.Plan.{Plan}
 use Rattle.crossbar.specs.Load.{with_plans}
 use Rattle.fabric.specs.Answer.{all_idle}
@@ -46,13 +46,13 @@ pub refused_law : {s : Switch} {store : List ℕ} → Sound s store → (i j : �
     → EventLaw s.running.ports s.running.frame i j s store e
 refused_law {s} ok i j hi hj e to left q = quiet_law ok i j hi hj e s.running s.waiting s.waits to left q
 
-pub refused_arrival : (i j : ℕ) (lent : Lent) (p q cell : ℕ) (r : Refusal) (s : Switch) (left : List ℕ) → Quiet i j (arrived lent p q cell (record { verdict = Refused r; state = s }) left)
+pub refused_arrival : (i j : ℕ) (lent : Lent) (p q cell : ℕ) (r : Refusal) (s : Switch) (left : List ℕ) → Quiet i j (arrived lent p q cell (record { verdict = Err r; state = s }) left)
 refused_arrival i j lent p q cell r s left = record { accepted = refl; moved = refl; left = refl; slots = refl; heads = refl; boards = refl }
 
 pub any_load : (i j n t : ℕ) (rates : List ℕ) (r : Reply) → Quiet i j (loaded n t rates r)
 any_load i j n t rates r = record { accepted = refl; moved = refl; left = refl; slots = refl; heads = refl; boards = refl }
 
-pub refused_step : (i j : ℕ) (lent : Lent) (r : Refusal) (s : Switch) → Quiet i j (stepped lent (record { verdict = Refused r; state = s; moves = all_idle; sends = all_idle }))
+pub refused_step : (i j : ℕ) (lent : Lent) (r : Refusal) (s : Switch) → Quiet i j (stepped lent (record { verdict = Err r; state = s; moves = all_idle; sends = all_idle }))
 refused_step i j lent r s =
     let board = get_d_repeated most_ports i Idle in
     let head = get_d_repeated most_ports j Idle in

@@ -5,8 +5,8 @@ use mathlib.Core.Bool.{false}
 use mathlib.Core.List.{List, [], ◌∷◌, map}
 use lib.ListN.{length}
 use borrow.Author.Tests.{ne_eqb}
-use Rattle.refusal.specs.declared.Verdict.{Verdict}
-use Rattle.refusal.specs.declared.Verdict.TheVariants.{Accepted, Refused}
+use Rattle.refusal.specs.Verdict.{Verdict}
+use Rattle.std.specs.Prelude.{Ok, Err}
 use Rattle.crossbar.specs.Arrive.{Arrival, arrive_verdict, arrive_of}
 use Rattle.crossbar.specs.Load.{with_waiting, load_verdict, CanLoad, load_of}
 use Rattle.crossbar.specs.Takeover.{takes_over}
@@ -56,37 +56,37 @@ module _ (n t : ℕ) (rates : List ℕ) where
       where
         go : (v : Verdict) → arrive_verdict s (length lent) i j ≡ v → let a = arrive_of s lent i j cell in
             arrive_of (with s) lent i j cell ≡ record { reply = reply_with a.reply; store = a.store }
-        go Accepted e = rw (arrive_verdict_lem (length lent) i j, e) refl
-        go (Refused r) e = rw (arrive_verdict_lem (length lent) i j, e) refl
+        go (Ok _) e = rw (arrive_verdict_lem (length lent) i j, e) refl
+        go (Err r) e = rw (arrive_verdict_lem (length lent) i j, e) refl
 
     load_verdict_lem : (m u : ℕ) (new : List ℕ) → load_verdict (with s) m u new ≡ load_verdict s m u new
     unfolding load_verdict
     load_verdict_lem m u new = rw (sound_valid ok, sound_valid sound_with) refl
 
-    load_with : (m u : ℕ) (new : List ℕ) → ((load_of (with s) m u new).verdict ≡ Accepted → ⊥) → load_of (with s) m u new ≡ reply_with (load_of s m u new)
+    load_with : (m u : ℕ) (new : List ℕ) → ((load_of (with s) m u new).verdict ≡ Ok tt → ⊥) → load_of (with s) m u new ≡ reply_with (load_of s m u new)
     unfolding load_of
     load_with m u new h = go (load_verdict s m u new) refl
       where
         go : (v : Verdict) → load_verdict s m u new ≡ v → load_of (with s) m u new ≡ reply_with (load_of s m u new)
-        go Accepted e = absurd (h (load_verdict_lem m u new ∙ e))
-        go (Refused r) e = rw (load_verdict_lem m u new, e) refl
+        go (Ok _) e = absurd (h (load_verdict_lem m u new ∙ e))
+        go (Err r) e = rw (load_verdict_lem m u new, e) refl
 
     step_verdict_lem : (len : ℕ) → step_verdict (with s) len ≡ step_verdict s len
     unfolding step_verdict
     step_verdict_lem len = rw (sound_valid ok, sound_valid sound_with, has_room_lem (takeover_sound ok).0, has_room_lem (takeover_sound sound_with).0) refl
 
-    step_with : (lent : List ℕ) → ((step_of (with s) lent).verdict ≡ Accepted → s.slot ≡ 0 → ⊥) → step_of (with s) lent ≡ slot_with (step_of s lent)
+    step_with : (lent : List ℕ) → ((step_of (with s) lent).verdict ≡ Ok tt → s.slot ≡ 0 → ⊥) → step_of (with s) lent ≡ slot_with (step_of s lent)
     unfolding step_of after_slot board_choices head_choices
     step_with lent h = go (step_verdict s (length lent)) refl
       where
         go : (v : Verdict) → step_verdict s (length lent) ≡ v → step_of (with s) lent ≡ slot_with (step_of s lent)
-        go Accepted e =
+        go (Ok _) e =
             let same = step_verdict_lem (length lent) in
             let later = ne_eqb s.slot 0 (h (same ∙ e)) in
             let mine : takes_over s ≡ false = rw later refl in
             let its : takes_over (with s) ≡ false = rw later refl in
             rw (same, e, not_taken s mine, not_taken (with s) its) refl
-        go (Refused r) e = rw (step_verdict_lem (length lent), e) refl
+        go (Err r) e = rw (step_verdict_lem (length lent), e) refl
 
     call_with : (c : Call) → (BeginsFrame (with s) (answered (with s) store c) → ⊥) → (PutsInWaiting (answered (with s) store c) → ⊥)
         → answered (with s) store c ≡ while_waiting n t rates (answered s store c)

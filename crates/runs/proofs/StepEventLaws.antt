@@ -8,8 +8,8 @@ use native.Mathlib.Omega.{arith}
 use lib.Dec.{eqb}
 use lib.ListN.{length}
 use borrow.Author.Tests.{eq-eqb, eqb-true, not-false}
-use Rattle.refusal.specs.declared.Verdict.{Verdict}
-use Rattle.refusal.specs.declared.Verdict.TheVariants.{Accepted, Refused}
+use Rattle.refusal.specs.Verdict.{Verdict}
+use Rattle.std.specs.Prelude.{Ok, Err}
 use Rattle.refusal.proofs.ChainLaws.{refuse_passed}
 use Rattle.plan.specs.declared.Plan.{Plan}
 use Rattle.crossbar.specs.State.{store_fits}
@@ -36,7 +36,7 @@ use Rattle.runs.proofs.QuietLaws.{refused_law, refused_step}
 
 -- an accepted step of a state that no plan takes over any more
 abbrev slot_event : Lent → Switch → List ℕ → Event
-slot_event lent u store = stepped lent (record { verdict = Accepted; state = after_slot u store; moves = (slot_moves u store).answers; sends = (slot_sends u store).answers })
+slot_event lent u store = stepped lent (record { verdict = Ok tt; state = after_slot u store; moves = (slot_moves u store).answers; sends = (slot_sends u store).answers })
 
 module _ {u : Switch} {store : List ℕ} (ok : Sound u store) (lent : Lent) (i j : ℕ) (hi : i < u.running.ports) (hj : j < u.running.ports) where
   abbrev e : Event
@@ -85,11 +85,11 @@ other_plans running waiting waits l =
     }
 
 module _ {s : Switch} {store : List ℕ} (ok : Sound s store) (valid : valid_of s ≡ true) where
-  accepted_own : step_verdict s (length store) ≡ Accepted
+  accepted_own : step_verdict s (length store) ≡ Ok tt
   unfolding step_verdict store_fits
   accepted_own = simp (valid, eq-eqb (length store) _ ok.store_size, has_room_lem (takeover_sound ok).0)
 
-  refused_other : (l : List ℕ) → OtherLength l store → step_verdict s (length l) ≡ Accepted → ⊥
+  refused_other : (l : List ℕ) → OtherLength l store → step_verdict s (length l) ≡ Ok tt → ⊥
   unfolding step_verdict store_fits
   refused_other l ne e =
       let n = s.running.ports in
@@ -109,8 +109,8 @@ module _ {s : Switch} {store : List ℕ} (ok : Sound s store) (valid : valid_of 
   step_other_keeps l ne = go (step_verdict s (length l)) refl
     where
       go : (v : Verdict) → step_verdict s (length l) ≡ v → Sound (state_after (answered s store (step (other l)))) store
-      go Accepted e = absurd (refused_other l ne e)
-      go (Refused r) e = rw e ok
+      go (Ok tt) e = absurd (refused_other l ne e)
+      go (Err r) e = rw e ok
 
   module _ (i j : ℕ) (hi : i < s.running.ports) (hj : j < s.running.ports) where
     abbrev Law : Event → Type 0
@@ -141,5 +141,5 @@ module _ {s : Switch} {store : List ℕ} (ok : Sound s store) (valid : valid_of 
     step_other_law l ne = go (step_verdict s (length l)) refl
       where
         go : (v : Verdict) → step_verdict s (length l) ≡ v → Law (answered s store (step (other l)))
-        go Accepted e = absurd (refused_other l ne e)
-        go (Refused r) e = rw e (refused_law ok i j hi hj _ refl refl (refused_step i j (other l) r s))
+        go (Ok tt) e = absurd (refused_other l ne e)
+        go (Err r) e = rw e (refused_law ok i j hi hj _ refl refl (refused_step i j (other l) r s))

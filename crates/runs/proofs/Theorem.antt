@@ -5,8 +5,8 @@ use mathlib.Core.List.{List, [], ◌∷◌, ◌++◌}
 use native.Mathlib.Omega.{arith}
 use lib.ListN.{length, take}
 use Rattle.refusal.specs.Chain.{if_accepted}
-use Rattle.refusal.specs.declared.Verdict.{Verdict}
-use Rattle.refusal.specs.declared.Verdict.TheVariants.{Accepted}
+use Rattle.refusal.specs.Verdict.{Verdict}
+use Rattle.std.specs.Prelude.{Ok}
 use Rattle.plan.specs.Lines.{flow_of}
 use Rattle.plan.specs.Below.{list_below}
 use Rattle.crossbar.specs.State.{queue_at, point_at}
@@ -37,7 +37,7 @@ module _ (run : Run) where
   abbrev s₀ : Switch
   s₀ = run.reply.state
 
-  verdict_is : start_verdict n T run.rates run.depth (length run.store) ≡ Accepted
+  verdict_is : start_verdict n T run.rates run.depth (length run.store) ≡ Ok tt
   unfolding start_of
   verdict_is = sym (ap (λ (r : Reply). r.verdict) run.starts) ∙ run.accepted
 

@@ -9,8 +9,8 @@ use Rattle.refusal.specs.Chain.{refuse_if, and_then}
 use Rattle.refusal.specs.Number.{number_of, verdict_number_of}
 use Rattle.refusal.specs.declared.Refusal.{Refusal}
 use Rattle.refusal.specs.declared.Refusal.TheVariants.{StoreLength, PlanMismatch, NoSuchPort, QueueFull, StateInvalid, CrosspointFull}
-use Rattle.refusal.specs.declared.Verdict.{Verdict}
-use Rattle.refusal.specs.declared.Verdict.TheVariants.{Accepted, Refused}
+use Rattle.refusal.specs.Verdict.{Verdict}
+use Rattle.std.specs.Prelude.{Ok, Err}
 use Rattle.plan.specs.Lines.{flow_of}
 use Rattle.plan.specs.Accept.{accept_of}
 use Rattle.plan.proofs.AcceptLaws.{accept_number}
@@ -26,16 +26,16 @@ pub record Fine (v : Verdict) : Type 0 where
   pub valid : verdict_number_of v ≡ number_of StateInvalid → ⊥
   pub room : verdict_number_of v ≡ number_of CrosspointFull → ⊥
 
-accepted_fine : Fine Accepted
+accepted_fine : Fine (Ok tt)
 accepted_fine = omega arith
 
-refuse_fine : (b : Bool) (r : Refusal) (rest : Verdict) → Fine (Refused r) → Fine rest → Fine (refuse_if b r rest)
+refuse_fine : (b : Bool) (r : Refusal) (rest : Verdict) → Fine (Err r) → Fine rest → Fine (refuse_if b r rest)
 refuse_fine true r rest f g = f
 refuse_fine false r rest f g = g
 
 then_fine : (v rest : Verdict) → Fine v → Fine rest → Fine (and_then v rest)
-then_fine Accepted rest f g = g
-then_fine (Refused r) rest f g = f
+then_fine (Ok _) rest f g = g
+then_fine (Err r) rest f g = f
 
 accept_fine : (n t : ℕ) (rates : List ℕ) → Fine (accept_of n t rates)
 accept_fine n t rates = let few = accept_number n t rates in omega arith

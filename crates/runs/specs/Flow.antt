@@ -1,7 +1,6 @@
 -- What a list of events says of one flow (i, j), read off the calls and the answers.
-use Rattle.std.specs.Prelude.{ℕ, ◌+◌, ◌-◌, ◌*◌, ◌/◌, ◌≡◌, cond, ◌&&◌, List, [], ◌∷◌, ◌++◌, eqb}
+use Rattle.std.specs.Prelude.{ℕ, ◌+◌, ◌-◌, ◌*◌, ◌/◌, ◌≡◌, cond, ◌&&◌, List, [], ◌∷◌, ◌++◌, eqb, Ok}
 use Rattle.refusal.specs.Chain.{if_accepted}
-use Rattle.refusal.specs.declared.Verdict.TheVariants.{Accepted}
 use Rattle.planpair.specs.Rates.{rate_at}
 use Rattle.fabric.specs.Answer.{cells_with, empty_with, answer_of}
 use Rattle.runs.specs.Event.{Event}
@@ -65,7 +64,7 @@ NeverEmpty i j es = total (board_empty_in i j) es ≡ 0
 -- "The flow has a of T slots through it if its rate in the plan that runs after part 1 is a in each of them". A step
 -- hands back the state with that plan still running.
 abbrev pub RateIn : ℕ → ℕ → ℕ → Event → Type 0
-RateIn i j a (stepped lent r) = r.verdict ≡ Accepted → rate_at r.state.running i j ≡ a
+RateIn i j a (stepped lent r) = r.verdict ≡ Ok tt → rate_at r.state.running i j ≡ a
 RateIn i j a (arrived lent p q cell r left) = Unit {0}
 RateIn i j a (loaded n t rates r) = Unit {0}
 

@@ -1,7 +1,6 @@
 -- Which plan runs: the one that was accepted last before the frame began. "A plan that was replaced never ran" (L5).
-use Rattle.std.specs.Prelude.{ℕ, ◌≡◌, List, [], ◌∷◌, ◌++◌, map}
+use Rattle.std.specs.Prelude.{ℕ, ◌≡◌, List, [], ◌∷◌, ◌++◌, map, Ok}
 use Rattle.refusal.specs.Chain.{if_accepted}
-use Rattle.refusal.specs.declared.Verdict.TheVariants.{Accepted}
 use Rattle.planpair.specs.Rates.{plan_rates}
 use Rattle.crossbar.specs.Load.{with_waiting, load_of}
 use Rattle.crossbar.specs.declared.state.Switch.{Switch}
@@ -22,7 +21,7 @@ last_accepted rates (e ∷ es) = last_accepted (accepted_after rates e) es
 
 -- an event in state s is the first slot of a frame
 abbrev pub BeginsFrame : Switch → Event → Type 0
-BeginsFrame s (stepped lent r) = (r.verdict ≡ Accepted) × (s.slot ≡ 0)
+BeginsFrame s (stepped lent r) = (r.verdict ≡ Ok tt) × (s.slot ≡ 0)
 BeginsFrame s (arrived lent i j cell r left) = ⊥
 BeginsFrame s (loaded n t rates r) = ⊥
 
@@ -30,7 +29,7 @@ BeginsFrame s (loaded n t rates r) = ⊥
 abbrev pub PutsInWaiting : Event → Type 0
 PutsInWaiting (stepped lent r) = ⊥
 PutsInWaiting (arrived lent i j cell r left) = ⊥
-PutsInWaiting (loaded n t rates r) = r.verdict ≡ Accepted
+PutsInWaiting (loaded n t rates r) = r.verdict ≡ Ok tt
 
 -- from state s on, a waiting plan neither takes over nor is replaced
 abbrev pub StillWaits : Switch → List Event → Type 0
@@ -63,5 +62,5 @@ pub record PlanPromise (run : Run) : Type 0 where
   -- "A plan that was replaced never ran"
   pub replaced_never_ran : (before : List Event) (n t : ℕ) (first : List ℕ) (r : Reply) (between : List Event) (m u : ℕ) (second : List ℕ) (q : Reply) (after : List Event)
       → run.events ≡ before ++ (loaded n t first r ∷ (between ++ (loaded m u second q ∷ after)))
-      → r.verdict ≡ Accepted → StillWaits r.state between → q.verdict ≡ Accepted
+      → r.verdict ≡ Ok tt → StillWaits r.state between → q.verdict ≡ Ok tt
       → NeverRan (final_state run.reply.state before) (final_store run.store before) n t first between m u second q

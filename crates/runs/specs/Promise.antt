@@ -2,7 +2,7 @@
 use Rattle.std.specs.Prelude.{ℕ, ◌+◌, ◌<◌, ◌≤◌, ◌≡◌, List, [], ◌∷◌, ◌++◌, length, take, get_or}
 use Rattle.refusal.specs.Number.{number_of, verdict_number_of}
 use Rattle.refusal.specs.declared.Refusal.TheVariants.{StateInvalid, CrosspointFull}
-use Rattle.refusal.specs.declared.Verdict.{Verdict}
+use Rattle.refusal.specs.Verdict.{Verdict}
 use Rattle.plan.specs.Lines.{flow_of}
 use Rattle.crossbar.specs.State.{queue_at, point_at}
 use Rattle.fabric.specs.Flow.{cell_place}

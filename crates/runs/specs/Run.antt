@@ -1,8 +1,7 @@
 -- "A run is any list of steps, arrivals and loads, refused ones among them, on one state and one store. It begins with
 -- the state of an accepted start and the store given to that start, which may hold anything. Each call gets the state that
 -- the last one returned and the store as that one left it; nobody else writes either meanwhile."
-use Rattle.std.specs.Prelude.{ℕ, ◌≡◌, List, [], ◌∷◌, length}
-use Rattle.refusal.specs.declared.Verdict.TheVariants.{Accepted}
+use Rattle.std.specs.Prelude.{ℕ, ◌≡◌, List, [], ◌∷◌, length, Ok}
 use Rattle.crossbar.specs.Start.{Starts}
 use Rattle.crossbar.specs.Arrive.{Arrives, arrive_of}
 use Rattle.crossbar.specs.Load.{Loads, load_of}
@@ -41,7 +40,7 @@ pub record Run : Type 0 where
   pub store : List ℕ
   pub reply : Reply
   pub starts : Starts ports frame rates depth store reply
-  pub accepted : reply.verdict ≡ Accepted
+  pub accepted : reply.verdict ≡ Ok tt
   -- the calls, with what they were answered
   pub events : List Event
   pub follow : Follow reply.state store events

@@ -3,7 +3,7 @@ use mathlib.Core.List.{[], ◌∷◌}
 use mathlib.Core.Path.{◌≡◌, refl}
 use lib.ListN.{take}
 use Rattle.refusal.specs.declared.Refusal.TheVariants.{PortsOutOfRange, FrameOutOfRange, NotPlanText}
-use Rattle.refusal.specs.declared.Verdict.TheVariants.{Accepted, Refused}
+use Rattle.std.specs.Prelude.{Ok, Err}
 use Rattle.plan.specs.Lines.{row_sum, column_sum}
 use Rattle.plan.specs.Range.{ports_in_range, frame_in_range}
 use Rattle.plan.specs.Accept.{accept_of}
@@ -18,15 +18,15 @@ use Rattle.sheet.specs.Sheet.{sheet_of}
 use Rattle.sheet.specs.declared.argument.Argument.TheVariants.{Number, Other}
 
 -- "4C 53 50 01 00 02 02 00 01 00 01 00 01 00 00 00 (hexadecimal)"
-scope_plan : let file = sheet_of 2 2 (ascii "1,1\r\n1,0\r\n") in (file.verdict ≡ Accepted)
+scope_plan : let file = sheet_of 2 2 (ascii "1,1\r\n1,0\r\n") in (file.verdict ≡ Ok tt)
     × (take file.length file.bytes ≡ 0x4c ∷ 0x53 ∷ 0x50 ∷ 0x01 ∷ 0x00 ∷ 0x02 ∷ 0x02 ∷ 0x00 ∷ 0x01 ∷ 0x00 ∷ 0x01 ∷ 0x00 ∷ 0x01 ∷ 0x00 ∷ 0x00 ∷ 0x00 ∷ [])
 unfolding sheet_of read_text_of verdict_of skip digits_from number field series ends values_of is_digit ports_in_range frame_in_range accept_of row_sum column_sum writing_of file_of head_of rate_bytes padded_to
 scope_plan = (refl, refl)
 
 refused :
-    ((sheet_of 17 2 []).verdict ≡ Refused PortsOutOfRange)
-    × ((sheet_of 2 0 []).verdict ≡ Refused FrameOutOfRange)
-    × ((sheet_of 2 2 (ascii "1,1\n1,0\n")).verdict ≡ Refused NotPlanText)
+    ((sheet_of 17 2 []).verdict ≡ Err PortsOutOfRange)
+    × ((sheet_of 2 0 []).verdict ≡ Err FrameOutOfRange)
+    × ((sheet_of 2 2 (ascii "1,1\n1,0\n")).verdict ≡ Err NotPlanText)
     × ((sheet_of 2 2 (ascii "1,1\n1,0\n")).length ≡ 0)
 unfolding sheet_of read_text_of verdict_of skip digits_from number field series ends values_of is_digit ports_in_range frame_in_range writing_of
 refused = (refl, refl, refl, refl)

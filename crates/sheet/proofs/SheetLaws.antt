@@ -10,8 +10,8 @@ use lib.Seq.{length-take-le}
 use Rattle.refusal.specs.Outcome.{Outcome, outcome}
 use Rattle.refusal.specs.declared.Refusal.{Refusal}
 use Rattle.refusal.specs.declared.Refusal.TheVariants.{PortsOutOfRange}
-use Rattle.refusal.specs.declared.Verdict.{Verdict}
-use Rattle.refusal.specs.declared.Verdict.TheVariants.{Accepted, Refused}
+use Rattle.refusal.specs.Verdict.{Verdict}
+use Rattle.std.specs.Prelude.{Ok, Err}
 use Rattle.plan.specs.Range.{most_flows, ports_in_range}
 use Rattle.plan.specs.Accept.{accept_of}
 use Rattle.plan.proofs.LineLaws.{square_small}
@@ -50,17 +50,17 @@ module _ (n t : ℕ) (text : List ℕ) (verdict : Verdict) (list : List ℕ) (re
           let same : rates_read n t text ≡ outcome verdict list = sym (read ∙ ap (read_text_of n t text) zeros) in
           rw same refl
       go false e =
-          let refused : verdict ≡ Refused PortsOutOfRange = ap (λ (o : Outcome). o.verdict) (read ∙ ports_decide n t text _ e) in
+          let refused : verdict ≡ Err PortsOutOfRange = ap (λ (o : Outcome). o.verdict) (read ∙ ports_decide n t text _ e) in
           rw (ports_decide n t text (replicate (n * n) 0) e, refused) (refused_same PortsOutOfRange _ _)
 
   -- an accepted text is written
-  pub sheet_written : verdict ≡ Accepted → write_of n t list ≡ sheet_of n t text
+  pub sheet_written : verdict ≡ Ok tt → write_of n t list ≡ sheet_of n t text
   sheet_written e =
-      let outcome_verdict : (read_text_of n t text (take (lent_count n) (replicate most_flows 0))).verdict ≡ Accepted = sym (ap (λ (o : Outcome). o.verdict) read) ∙ e in
-      let plan : accept_of n t list ≡ Accepted = ap (λ (o : Outcome). accept_of n t o.list) read ∙ (accepted_text n t text _ outcome_verdict).plan in
+      let outcome_verdict : (read_text_of n t text (take (lent_count n) (replicate most_flows 0))).verdict ≡ Ok tt = sym (ap (λ (o : Outcome). o.verdict) read) ∙ e in
+      let plan : accept_of n t list ≡ Ok tt = ap (λ (o : Outcome). accept_of n t o.list) read ∙ (accepted_text n t text _ outcome_verdict).plan in
       write_accepted n t list plan ∙ ap (λ (v : Verdict). writing_of v (file_of n t list)) (sym e) ∙ sym sheet_by
 
-  pub sheet_refused : (r : Refusal) → verdict ≡ Refused r → writing_of (Refused r) [] ≡ sheet_of n t text
+  pub sheet_refused : (r : Refusal) → verdict ≡ Err r → writing_of (Err r) [] ≡ sheet_of n t text
   sheet_refused r e = refused_same r [] (file_of n t list) ∙ ap (λ (v : Verdict). writing_of v (file_of n t list)) (sym e) ∙ sym sheet_by
 
 -- the bytes of a file are within its array

@@ -1,7 +1,6 @@
 -- The program: the plan of a text, as a file. "A refusal goes to standard error .., and nothing to standard output".
-use Rattle.std.specs.Prelude.{ℕ, ◌+◌, ◌*◌, List, ◌≡◌, replicate}
+use Rattle.std.specs.Prelude.{ℕ, ◌+◌, ◌*◌, List, ◌≡◌, replicate, Ok}
 use Rattle.refusal.specs.Outcome.{Outcome}
-use Rattle.refusal.specs.declared.Verdict.TheVariants.{Accepted}
 use Rattle.planfile.specs.Read.{plan_of, reading_of, read_of}
 use Rattle.planfile.specs.Write.{file_of, writing_of}
 use Rattle.planfile.specs.declared.writing.Writing.{Writing}
@@ -21,4 +20,4 @@ most_input = most_text + 1
 
 -- The file of an accepted text is read as the plan of its rates (proofs/SheetLaws.antt, sheet_plan).
 abbrev pub SheetPlan : Type 0
-SheetPlan = (n t : ℕ) (text : List ℕ) → let read = rates_read n t text in read.verdict ≡ Accepted → read_of (file_of n t read.list) ≡ reading_of Accepted (plan_of n t read.list)
+SheetPlan = (n t : ℕ) (text : List ℕ) → let read = rates_read n t text in read.verdict ≡ Ok tt → read_of (file_of n t read.list) ≡ reading_of (Ok tt) (plan_of n t read.list)

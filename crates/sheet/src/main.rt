@@ -10,7 +10,7 @@ use console::failure::fail;
 use console::input::{Input, read_input};
 use console::text::{REFUSAL_ROOM, refusal_line};
 use plantext::MOST_TEXT;
-use refusal::Verdict;
+use refusal::Refusal;
 use std::env::{Env, FillError};
 
 mod argument;
@@ -33,7 +33,7 @@ fn usage(rt: &HostRuntime) {
 }
 
 #[tactic(auto, using(console::proofs::TextLaws::refusal_short))]
-fn refuse(rt: &HostRuntime, verdict: Verdict) {
+fn refuse(rt: &HostRuntime, verdict: Result<(), Refusal>) {
     let mut line = [0u8; REFUSAL_ROOM];
     let end = refusal_line(&mut line, 0, verdict);
     let _ = rt.stderr().write_all(&line[..end]);
@@ -74,7 +74,7 @@ fn convert(rt: &HostRuntime, n: u32, t: u32) {
     };
     let file = plan_file(n as usize, t, &text[..len]);
     let verdict = file.verdict;
-    let Verdict::Accepted = verdict else {
+    let Ok(()) = verdict else {
         refuse(rt, verdict);
         return;
     };

@@ -6,7 +6,6 @@ ghost use Rattle.sheet.specs.Sheet.{sheet_of};
 use plan::range::{MOST_FLOWS, ports_in_range};
 use planfile::writing::{Writing, no_file, write};
 use plantext::read_text;
-use refusal::Verdict;
 
 // The flows between N inputs and N outputs; none for an N that reading refuses.
 fn flows(n: usize) -> usize
@@ -24,7 +23,7 @@ pub fn plan_file(n: usize, t: u32, text: &[u8]) -> Writing
     let mut rates = [0u16; MOST_FLOWS];
     let count = flows(n);
     match read_text(n, t, text, &mut rates[..count]) {
-        Verdict::Accepted => write(n, t, &rates[..count]),
-        Verdict::Refused(refusal) => no_file(refusal),
+        Ok(()) => write(n, t, &rates[..count]),
+        Err(refusal) => no_file(refusal),
     }
 }

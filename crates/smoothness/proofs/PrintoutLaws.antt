@@ -8,7 +8,7 @@ use native.Mathlib.Omega.{arith}
 use lib.ListN.{length, get_or, take}
 use borrow.Author.Tests.{lt-ltb, le-ltb}
 use Rattle.refusal.specs.declared.Refusal.{Refusal}
-use Rattle.refusal.specs.declared.Verdict.TheVariants.{Accepted, Refused}
+use Rattle.std.specs.Prelude.{Ok, Err}
 use Rattle.plan.specs.Desk.{desk_of}
 use Rattle.plan.specs.Range.{most_ports, most_flows}
 use Rattle.plan.specs.declared.Plan.{Plan}
@@ -75,16 +75,16 @@ module _ (plan : Plan) (j : ℕ) where
 
 -- The printout, by what the reader answers.
 module _ (file : List ℕ) (r : Reading) (is : r ≡ read_of file) where
-  pub accepted_printout : r.verdict ≡ Accepted → printout_of file ≡ header_text ++ text_below (head_lines_of r.plan) r.plan.ports
+  pub accepted_printout : r.verdict ≡ Ok tt → printout_of file ≡ header_text ++ text_below (head_lines_of r.plan) r.plan.ports
   unfolding printout_of
   accepted_printout e = rw (← is, e) refl
 
-  pub refused_printout : {why : Refusal} → r.verdict ≡ Refused why → printout_of file ≡ refusal_line_of r.verdict
+  pub refused_printout : {why : Refusal} → r.verdict ≡ Err why → printout_of file ≡ refusal_line_of r.verdict
   unfolding printout_of
   refused_printout e = rw (← is, e) refl
 
-  pub plan_read : r.verdict ≡ Accepted → FilePlan r.plan
-  plan_read = subst (λ (s : Reading). s.verdict ≡ Accepted → FilePlan s.plan) (sym is) (accepted_plan file)
+  pub plan_read : r.verdict ≡ Ok tt → FilePlan r.plan
+  plan_read = subst (λ (s : Reading). s.verdict ≡ Ok tt → FilePlan s.plan) (sym is) (accepted_plan file)
 
 -- what the program reads of a file is enough
 pub printout_cut : (file : List ℕ) → printout_of (take most_input file) ≡ printout_of file

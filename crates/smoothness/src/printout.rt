@@ -14,7 +14,6 @@ use plan::Plan;
 use plan::desk::desk_view;
 use plan::range::{MOST_FLOWS, MOST_PORTS};
 use planfile::read;
-use refusal::Verdict;
 use side::columns::transpose;
 
 // In how many lengths a flow is measured.
@@ -128,7 +127,7 @@ pub fn printout(file: &[u8], out: &mut [u8; PRINTOUT_ROOM]) -> usize
 {
     let reading = read(file);
     let verdict = reading.verdict;
-    let Verdict::Accepted = verdict else {
+    let Ok(()) = verdict else {
         return refusal_line(out, 0, verdict);
     };
     let lines_at = put(out, 0, b"out in rate slots least promised most promised\n");

@@ -3,4 +3,4 @@ use Rattle.meter.proofs.AnswerLaws.{accepted_record}
 use Rattle.meter.proofs.cover.Goals as goal
 
 pub measure-requires : goal.measure-requires
-measure-requires c = accepted_record _ _ (sym c.judge-verdict.ensures ∙ c.in-Accepted.is)
+measure-requires c = accepted_record _ _ (sym c.judge-verdict.ensures ∙ c.in-Ok.is)

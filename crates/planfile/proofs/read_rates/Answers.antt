@@ -13,8 +13,8 @@ verdict c =
     let rates = rates_of a.bytes.now a.count in
     c.accept.ensures ∙ ap (accept_of a.n a.t) (rw (sub-zero, c.rates_of-rates.ensures) (padded_take rates a.count (rates_length a.bytes.now a.count)))
 
-pub returns-in-Accepted : goal.returns-in-Accepted
-returns-in-Accepted c = simp (sym (verdict (goal.at.returns-in-Accepted c).After-accept) ∙ c.in-Accepted.is, sym c.rates_of-rates.ensures)
+pub returns-in-Ok : goal.returns-in-Ok
+returns-in-Ok c = simp (sym (verdict (goal.at.returns-in-Ok c).After-accept) ∙ c.in-Ok.is, sym c.rates_of-rates.ensures)
 
-pub returns-in-Refused : goal.returns-in-Refused
-returns-in-Refused c = simp (sym (verdict (goal.at.returns-in-Refused c).After-accept) ∙ c.in-Refused.is) c.refused.ensures
+pub returns-in-Err : goal.returns-in-Err
+returns-in-Err c = simp (sym (verdict (goal.at.returns-in-Err c).After-accept) ∙ c.in-Err.is) c.refused.ensures

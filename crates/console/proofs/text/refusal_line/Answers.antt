@@ -1,6 +1,6 @@
-use Rattle.std.proofs.Common.{ℕ, List, refl, arith, ap, length, length-append, ◌≡◌, ◌+◌, ◌≤◌}
+use Rattle.std.proofs.Common.{ℕ, List, refl, arith, ap, length, length-append, ◌≡◌, ◌+◌, ◌≤◌, ◌∙◌}
 use Rattle.refusal.specs.Number.{verdict_number_of}
-use Rattle.refusal.specs.declared.Verdict.{Verdict}
+use Rattle.refusal.specs.Verdict.{Verdict}
 use Rattle.console.specs.Text.{decimal_of, HasRoom}
 use Rattle.console.specs.Refused.{refusal_line_of}
 use Rattle.console.proofs.TextLaws.{written_as, written_on}
@@ -15,11 +15,11 @@ pub put-number_at-requires : goal.put-number_at-requires
 put-number_at-requires c = omega (arith, room _ c.requires refl)
 
 pub number-end-requires : goal.number-end-requires
-number-end-requires c = omega (arith, room _ c.requires c.number.ensures)
+number-end-requires c = omega (arith, room _ c.requires (c.from.ensures ∙ c.verdict_number.ensures))
 
 pub put-requires : goal.put-requires
-put-requires c = omega (arith, room _ c.requires c.number.ensures)
+put-requires c = omega (arith, room _ c.requires (c.from.ensures ∙ c.verdict_number.ensures))
 
 pub returns : goal.returns
 unfolding refusal_line_of
-returns c = written_on c.put-number_at.ensures (written_on (written_as c.number-end.ensures (ap decimal_of c.number.ensures)) c.put.ensures)
+returns c = written_on c.put-number_at.ensures (written_on (written_as c.number-end.ensures (ap decimal_of (c.from.ensures ∙ c.verdict_number.ensures))) c.put.ensures)

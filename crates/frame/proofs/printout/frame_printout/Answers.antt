@@ -16,13 +16,13 @@ returns-in_default c =
 pub header-slots_at-requires : goal.header-slots_at-requires
 header-slots_at-requires c =
     room_first _ _
-    (room_as c.requires.1 ((by_start c.args.plan _ _ (zeros_taken _ c.requires.0) c.start-started.ensures).accepted c.in-Accepted.is))
+    (room_as c.requires.1 ((by_start c.args.plan _ _ (zeros_taken _ c.requires.0) c.start-started.ensures).accepted c.in-Ok.is))
 
 pub slot_lines-requires : goal.slot_lines-requires
 slot_lines-requires c = (
   c.requires.0,
   room_next _ _
-      (room_as c.requires.1 ((by_start c.args.plan _ _ (zeros_taken _ c.requires.0) c.start-started.ensures).accepted c.in-Accepted.is))
+      (room_as c.requires.1 ((by_start c.args.plan _ _ (zeros_taken _ c.requires.0) c.start-started.ensures).accepted c.in-Ok.is))
       c.header-slots_at.ensures c.header-slots_at.auto.out,
 )
 
@@ -30,4 +30,4 @@ pub returns : goal.returns
 returns c =
     written_as
     (written_on c.header-slots_at.ensures c.slot_lines.ensures)
-    (sym ((by_start c.args.plan _ _ (zeros_taken _ c.requires.0) c.start-started.ensures).accepted c.in-Accepted.is))
+    (sym ((by_start c.args.plan _ _ (zeros_taken _ c.requires.0) c.start-started.ensures).accepted c.in-Ok.is))

@@ -15,11 +15,11 @@ returns-in_default c =
 
 pub frame_printout-requires : goal.frame_printout-requires
 frame_printout-requires c = (
-  few_ports _ _ c.read-reading.ensures c.in-Accepted.is,
-  room_as (printout_room_lem c.args.file.now c.args.out.now c.told-out) ((by_reading _ _ c.read-reading.ensures).accepted c.in-Accepted.is),
+  few_ports _ _ c.read-reading.ensures c.in-Ok.is,
+  room_as (printout_room_lem c.args.file.now c.args.out.now c.told-out) ((by_reading _ _ c.read-reading.ensures).accepted c.in-Ok.is),
 )
 
 pub returns : goal.returns
 returns c =
     prints c.args.file.now c.args.out.now c.told-out c.frame_printout.auto.out
-    (written_as c.frame_printout.ensures (sym ((by_reading _ _ c.read-reading.ensures).accepted c.in-Accepted.is)))
+    (written_as c.frame_printout.ensures (sym ((by_reading _ _ c.read-reading.ensures).accepted c.in-Ok.is)))

@@ -23,13 +23,13 @@ slot_line-at-requires c = (
   room_first _ _
       (room_as
       (begun_room c.loop-slot.invariant c.requires.1 c.loop-slot.auto.out)
-      ((by_step _ _ _ _ _ _ c.loop-slot-test.true c.step-done.ensures.defined).accepted c.in-Accepted.is)),
+      ((by_step _ _ _ _ _ _ c.loop-slot-test.true c.step-done.ensures.defined).accepted c.in-Ok.is)),
 )
 
 pub loop-slot-preserved : goal.loop-slot-preserved
 loop-slot-preserved c =
     begun_next c.loop-slot.invariant
-    ((by_step _ _ _ _ _ _ c.loop-slot-test.true c.step-done.ensures.defined).accepted c.in-Accepted.is)
+    ((by_step _ _ _ _ _ _ c.loop-slot-test.true c.step-done.ensures.defined).accepted c.in-Ok.is)
     c.slot_line-at.ensures
 
 pub returns : goal.returns

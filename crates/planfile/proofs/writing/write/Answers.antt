@@ -8,5 +8,5 @@ use Rattle.planfile.proofs.writing.write.Goals as goal
 pub file-bytes-requires : goal.file-bytes-requires
 file-bytes-requires c =
     let a = c.args in
-    let plan = accepted a.n a.t a.rates.now (sym c.accept.ensures ∙ c.in-Accepted.is) in
+    let plan = accepted a.n a.t a.rates.now (sym c.accept.ensures ∙ c.in-Ok.is) in
     (omega arith, omega arith, omega (arith, square_small _ plan.few_ports))

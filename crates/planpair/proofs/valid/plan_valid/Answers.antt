@@ -1,10 +1,9 @@
 use Prim.Native.Nat.{◌≤◌}
-use mathlib.Core.Bool.{true, false}
 use mathlib.Core.Path.{ap, sym, ◌∙◌}
 use native.Mathlib.Omega.{arith}
 use lib.Seq.{length-take-le}
-use Rattle.refusal.specs.Chain.{if_accepted}
-use Rattle.refusal.specs.declared.Verdict.{Verdict}
+use Rattle.std.specs.Prelude.{is_ok}
+use Rattle.refusal.specs.Verdict.{Verdict}
 use Rattle.plan.specs.Range.{most_ports}
 use Rattle.plan.proofs.TestLaws.{failed, passed}
 use Rattle.plan.proofs.RangeLaws.{ports_range}
@@ -15,7 +14,7 @@ use Rattle.planpair.proofs.valid.plan_valid.Goals as goal
 
 pub returns-then-not-ports_in_range : goal.returns-then-not-ports_in_range
 unfolding plan_valid
-returns-then-not-ports_in_range c = ap (λ (v : Verdict). if_accepted v true false) (sym (ports_decide _ _ _ (failed c.ports_in_range.ensures c.if-not-ports_in_range.true)))
+returns-then-not-ports_in_range c = ap (λ (v : Verdict). is_ok v) (sym (ports_decide _ _ _ (failed c.ports_in_range.ensures c.if-not-ports_in_range.true)))
 
 pub overflow_mul-n : goal.overflow_mul-n
 overflow_mul-n c =
@@ -27,10 +26,6 @@ slice_bounds-accept-end c =
     let few_ports : c.args.n ≤ most_ports = (ports_range _ (passed c.ports_in_range.ensures c.if-not-ports_in_range.false)).1 in
     sym (length-take-le _ _ (omega (arith, c.requires, square_small _ few_ports)))
 
-pub returns-in-Accepted : goal.returns-in-Accepted
+pub returns : goal.returns
 unfolding plan_valid
-returns-in-Accepted c = ap (λ (v : Verdict). if_accepted v true false) (sym c.in-Accepted.is ∙ c.accept-verdict.ensures)
-
-pub returns-in-Refused : goal.returns-in-Refused
-unfolding plan_valid
-returns-in-Refused c = ap (λ (v : Verdict). if_accepted v true false) (sym c.in-Refused.is ∙ c.accept-verdict.ensures)
+returns c = c.is_ok.ensures.value ∙ ap (λ (v : Verdict). is_ok v) c.accept.ensures

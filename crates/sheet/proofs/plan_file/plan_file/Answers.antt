@@ -2,10 +2,10 @@ use Rattle.std.proofs.Common.{◌≡◌, ◌∙◌, length, ap, sym, arith, leng
 use lib.Seq.{take_at}
 use Rattle.sheet.proofs.SheetLaws.{lent_within, lent_length, sheet_written, sheet_refused}
 use Rattle.sheet.proofs.plan_file.plan_file.Goals as goal
-use Rattle.sheet.proofs.plan_file.plan_file.Goals.{In-Accepted}
+use Rattle.sheet.proofs.plan_file.plan_file.Goals.{In-Ok}
 
 -- the part of the array that was lent to the reader, as it came back
-rates_size : (c : In-Accepted) → length c.read_text.new.rates ≡ c.flows-count.result
+rates_size : (c : In-Ok) → length c.read_text.new.rates ≡ c.flows-count.result
 rates_size c = c.read_text.auto.rates ∙ lent_length c.args.n c.flows-count.ensures
 
 pub slice_bounds-rates-end : goal.slice_bounds-rates-end
@@ -14,19 +14,19 @@ slice_bounds-rates-end c = rw c.flows-count.ensures (lent_within c.args.n)
 pub slice_bounds-read_text-end : goal.slice_bounds-read_text-end
 slice_bounds-read_text-end c = sym (lent_length c.args.n c.flows-count.ensures)
 
-pub slice_bounds-rates-end-in-Accepted : goal.slice_bounds-rates-end-in-Accepted
-slice_bounds-rates-end-in-Accepted c = simp length-append (omega (arith, rates_size c))
+pub slice_bounds-rates-end-in-Ok : goal.slice_bounds-rates-end-in-Ok
+slice_bounds-rates-end-in-Ok c = simp length-append (omega (arith, rates_size c))
 
 pub slice_bounds-write-end : goal.slice_bounds-write-end
 slice_bounds-write-end c =
-    let size = rates_size (goal.at.slice_bounds-write-end c).In-Accepted in
+    let size = rates_size (goal.at.slice_bounds-write-end c).In-Ok in
     sym (ap length (take_at c.read_text.new.rates _ _ size) ∙ size)
 
-pub returns-in-Accepted : goal.returns-in-Accepted
-returns-in-Accepted c =
-    let size = rates_size (goal.at.returns-in-Accepted c).In-Accepted in
+pub returns-in-Ok : goal.returns-in-Ok
+returns-in-Ok c =
+    let size = rates_size (goal.at.returns-in-Ok c).In-Ok in
     rw (take_at c.read_text.new.rates _ _ size) at c.write.ensures
-    ∙ sheet_written _ _ _ _ _ (rw c.flows-count.ensures at c.read_text.ensures) c.in-Accepted.is
+    ∙ sheet_written _ _ _ _ _ (rw c.flows-count.ensures at c.read_text.ensures) c.in-Ok.is
 
-pub returns-in-Refused : goal.returns-in-Refused
-returns-in-Refused c = c.no_file.ensures ∙ sheet_refused _ _ _ _ _ (rw c.flows-count.ensures at c.read_text.ensures) _ c.in-Refused.is
+pub returns-in-Err : goal.returns-in-Err
+returns-in-Err c = c.no_file.ensures ∙ sheet_refused _ _ _ _ _ (rw c.flows-count.ensures at c.read_text.ensures) _ c.in-Err.is

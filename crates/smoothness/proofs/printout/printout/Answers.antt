@@ -14,7 +14,7 @@ returns-in_default c = written_as c.refusal_line.ensures (sym (refused_printout 
 pub heads_lines-requires : goal.heads_lines-requires
 heads_lines-requires c =
     let read = c.read-reading.ensures in
-    let accepted = c.in-Accepted.is in
+    let accepted = c.in-Ok.is in
     let put = c.put-lines_at in
     let plan = (plan_read _ _ read accepted).is_plan in
     let room = room_as (printout_room_lem c.args.file.now c.args.out.now (search rules)) (accepted_printout _ _ read accepted) in
@@ -23,4 +23,4 @@ heads_lines-requires c =
 pub returns : goal.returns
 returns c =
     let both = written_on c.put-lines_at.ensures c.heads_lines.ensures in
-    written_as both (sym (accepted_printout _ _ c.read-reading.ensures c.in-Accepted.is))
+    written_as both (sym (accepted_printout _ _ c.read-reading.ensures c.in-Ok.is))
