@@ -11,7 +11,7 @@ use lib.ListN.{length, get_or, set, length-set}
 use borrow.Author.Tests.{eq-eqb, ne_eqb}
 use Rattle.fabric.specs.Flow.{cell_place}
 use Rattle.fabric.specs.Answer.{cells_with, empty_with}
-use Rattle.fabric.specs.Moves.{move_of, shorter}
+use Rattle.fabric.specs.Moves.{move_of}
 use Rattle.fabric.specs.Sends.{send_of}
 use Rattle.fabric.specs.declared.flow.Answer.{Answer}
 use Rattle.fabric.specs.declared.flow.Queue.{Queue}
