@@ -98,7 +98,6 @@ impl Switch {
         requires { Judged self (length store.now) n valid fits }
         ensures { Steps self store.now result }
     {
-        let mut next = self;
         let rates = self.running.rates;
         let waiting_rates = self.waiting.rates;
         let running = &rates[..n * n];
@@ -106,37 +105,29 @@ impl Switch {
         let t = self.running.frame;
         let takeover = takes_over(self.slot, self.waits);
         let fabric = self.fabric;
-        let board_counts = fabric.boards;
-        let boards = serve_all(board_counts, running, waiting, takeover, n, t, self.slot);
-        let choices = boards.choices;
-        let queues = fabric.queues;
-        let points = fabric.crosspoints;
-        let room = room_for_all(queues, points, choices, n);
+        let boards = serve_all(fabric.boards, running, waiting, takeover, n, t, self.slot);
+        let room = room_for_all(fabric.queues, fabric.crosspoints, boards.choices, n);
         let m = acting(n, room);
-        let mut columns = [0u16; MOST_FLOWS];
+        let mut columns = [0; MOST_FLOWS];
         columns_of(running, waiting, takeover, n, &mut columns);
         let rows = &columns[..m * m];
-        let head_counts = fabric.heads;
-        let heads = serve_all(head_counts, rows, rows, false, m, t, self.slot);
+        let heads = serve_all(fabric.heads, rows, rows, false, m, t, self.slot);
         let ran = fabric.run(store, boards, heads, m, self.depth);
-        let after = ran.fabric;
-        let moves = ran.moves;
-        let sends = ran.sends;
-        let verdict = verdict_by(valid, fits, room);
+        let mut next = self;
         next.slot = next_slot(m, self.slot, t);
-        next.fabric = after;
-        if takeover & (m != 0) {
-            let old = next.running;
-            let taken = next.waiting;
-            next.running = replaced(old, taken);
-            next.waiting = cleared(taken);
+        next.fabric = ran.fabric;
+        if takeover && m != 0 {
+            next.running = replaced(self.running, self.waiting);
+            next.waiting = cleared(self.waiting);
             next.waits = 0;
         }
+        let moves = ran.moves;
+        let sends = ran.sends;
         SlotReply {
             state: next,
-            verdict: verdict,
-            moves: moves,
-            sends: sends,
+            verdict: verdict_by(valid, fits, room),
+            moves,
+            sends,
         }
     }
 
