@@ -10,7 +10,6 @@ ghost use Rattle.records.specs.Records.{other_of, cell_of, answer_record, port_r
 use crossbar::state::{Reply, SlotReply, Switch};
 use fabric::flow::Answer;
 use meter::{Measured, Stretch};
-use multiplexer::Choice;
 use plan::Plan;
 use plan::range::MOST_PORTS;
 use planfile::Reading;
@@ -138,26 +137,26 @@ fn port_records(answers: [Answer; MOST_PORTS]) -> [PortRecord; MOST_PORTS]
     records
 }
 
-pub fn choice_record(choice: Choice) -> ChoiceRecord
+pub fn choice_record(choice: Option<usize>) -> ChoiceRecord
     ensures { result ≡ choice_record choice }
 {
     match choice {
-        Choice::Idle => ChoiceRecord {
+        None => ChoiceRecord {
             kind: NO_FLOW,
             flow: 0,
         },
-        Choice::Flow(flow) => ChoiceRecord { kind: FLOW, flow },
+        Some(flow) => ChoiceRecord { kind: FLOW, flow },
     }
 }
 
 // The choice that a caller hands over; every kind but NO_FLOW is a flow.
-pub fn choice_in(choice: ChoiceRecord) -> Choice
+pub fn choice_in(choice: ChoiceRecord) -> Option<usize>
     ensures { result ≡ choice_in choice }
 {
     if choice.kind == NO_FLOW {
-        return Choice::Idle;
+        return None;
     }
-    Choice::Flow(choice.flow)
+    Some(choice.flow)
 }
 
 pub fn reply_record(reply: Reply) -> ReplyRecord
