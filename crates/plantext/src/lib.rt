@@ -9,7 +9,6 @@ ghost use Rattle.plantext.specs.Read.{values_in, judged_of, read_text_of};
 
 use crate::records::read_values;
 use plan::acceptance::accept;
-use plan::lists::copy;
 use plan::range::{MOST_FLOWS, MOST_PORTS, frame_in_range, is_square, ports_in_range};
 use refusal::{Refusal, Verdict};
 
@@ -29,7 +28,7 @@ fn hand_over(n: usize, t: u32, values: &[u16], rates: &mut [u16]) -> Verdict
     let Verdict::Accepted = verdict else {
         return verdict;
     };
-    copy(values, rates);
+    rates.copy_from_slice(values);
     verdict
 }
 
@@ -41,9 +40,9 @@ fn read_rates(n: usize, t: u32, text: &[u8], rates: &mut [u16]) -> Verdict
 {
     let mut values = [0u16; MOST_FLOWS];
     let flows = n * n;
-    if !read_values(text, n, &mut values[..flows]) {
+    let Some(()) = read_values(text, n, &mut values[..flows]) else {
         return Verdict::Refused(Refusal::NotPlanText);
-    }
+    };
     hand_over(n, t, &values[..flows], rates)
 }
 

@@ -1,31 +1,29 @@
-use Rattle.std.proofs.Common.{◌<◌, length, refl, sym, add-one, arith, length-set}
+use Rattle.std.proofs.Common.{◌<◌, length, refl, sym, add-one, arith}
 use Rattle.std.proofs.Math.Seq.{take-suc-set}
 use Rattle.plantext.specs.Bytes.{comma}
 use Rattle.plantext.specs.Values.{field, series}
-use Rattle.plantext.proofs.PlaceLaws.{series_next, no_mark, no_item}
+use Rattle.plantext.proofs.SeriesLaws.{series_next, no_mark, no_item}
 use Rattle.plantext.proofs.records.read_record.Goals as goal
 
 pub loop-k-init : goal.loop-k-init
 unfolding series
-loop-k-init c = (omega arith, refl, refl, refl)
+loop-k-init c = refl
 
-pub returns-in_default : goal.returns-in_default
-returns-in_default c =
+pub returns-in_err-field_start : goal.returns-in_err-field_start
+returns-in_err-field_start c =
     let at = c.loop-k in
-    sym (no_mark field comma _ at.k _ _ at.invariant.3 _ (omega arith) (sym c.in_default.ensures))
+    rw c.from_residual.ensures
+    (sym (no_mark field comma _ at.k _ _ at.invariant _ (omega arith) (sym c.in_err-field_start.ensures)))
 
-pub returns-in_default-read_field : goal.returns-in_default-read_field
-returns-in_default-read_field c =
+pub returns-in_err-place : goal.returns-in_err-place
+returns-in_err-place c =
     let at = c.loop-k in
-    sym (no_item field comma _ at.k _ _ at.invariant.3 _ _ (omega arith) (sym c.in-At.ensures) (sym c.in_default-read_field.ensures))
+    rw c.from_residual-in_err-place.ensures
+    (sym (no_item field comma _ at.k _ _ at.invariant _ _ (omega arith) (sym c.in_ok-field_start.ensures) (sym c.in_err-place.ensures)))
 
 pub loop-k-preserved : goal.loop-k-preserved
 loop-k-preserved c =
     let at = c.loop-k in
-    let within : at.k < length at.row = omega arith in (
-      omega arith,
-      at.invariant.1,
-      simp length-set at.invariant.2,
-      rw (add-one, take-suc-set at.row at.k _ within)
-          (series_next field comma _ at.k _ _ at.invariant.3 _ _ _ (sym c.in-At.ensures) (sym c.in-Read.ensures)),
-    )
+    let within : at.k < length at.row = omega arith in
+    rw (add-one, take-suc-set at.row at.k _ within)
+    (series_next field comma _ at.k _ _ at.invariant _ _ _ (sym c.in_ok-field_start.ensures) (sym c.in_ok-place.ensures))
