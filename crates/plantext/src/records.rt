@@ -38,7 +38,7 @@ fn record_start(text: &[u8], k: usize) -> Option<&[u8]>
     skip_line_end(text)
 }
 
-// The records of n inputs, a row of the list to each.
+// The records of n inputs, a row of the list to each. By number: of a list lent by `chunks_exact_mut` a proof knows only the length.
 fn read_records<'a>(text: &'a [u8], n: usize, list: &mut [u16]) -> Option<&'a [u8]>
     requires { length list.old ≡ n * n }
     ensures { option_map (λ rest. (list.new, rest.now)) result ≡ values.records_of n text.now }
