@@ -7,13 +7,14 @@ use mathlib.Core.Logic.{⊎_elim}
 use native.Mathlib.Nat.{pow-suc}
 use native.Mathlib.Numerals.{add-one}
 use native.Mathlib.Omega.{arith}
-use lib.ListN.{length, get_or}
+use lib.ListN.{length, get_or, take, set}
+use lib.Seq.{take-suc-set}
 use Rattle.std.specs.Prelude.{None}
 use Rattle.std.specs.List.{between}
 use Rattle.std.proofs.lemmas.Slice.{between_to_end}
 use Rattle.plan.proofs.BelowLaws.{below_or_last}
-use Rattle.plantext.specs.Bytes.{is_digit, digit_of}
-use Rattle.plantext.specs.Values.{Parsed, parsed, skip, digits_from, before, series}
+use Rattle.plantext.specs.Bytes.{is_digit, digit_of, comma}
+use Rattle.plantext.specs.Values.{Parsed, parsed, skip, digits_from, field, before, series}
 use Rattle.plantext.proofs.RuleLaws.{NoDigit}
 
 -- a text without a first byte, and one whose first byte is no digit
@@ -52,14 +53,20 @@ stuck item mark text k (suc n) l e =
 
 -- One item more of a series, of which k are taken.
 module _ (item : List ℕ → Parsed) (mark text : List ℕ) (k : ℕ) (values rest : List ℕ) (taken : series item mark k text ≡ parsed values rest) where
-  pub series_next : (left new end : List ℕ) → skip (before mark k) rest ≡ parsed [] left → item left ≡ parsed new end → series item mark (suc k) text ≡ parsed (values ++ new) end
+  pub series_next : (left new end : List ℕ) → parsed [] left ≡ skip (before mark k) rest → parsed new end ≡ item left → series item mark (k + 1) text ≡ parsed (values ++ new) end
   unfolding series
-  series_next left new end marked one_more = rw (taken, marked, one_more, append-nil) refl
+  series_next left new end marked one_more = rw (add-one, taken, ← marked, ← one_more, append-nil) refl
 
-  pub no_mark : (n : ℕ) → k < n → skip (before mark k) rest ≡ None → series item mark n text ≡ None
+  pub no_mark : (n : ℕ) → k < n → None ≡ skip (before mark k) rest → None ≡ series item mark n text
   unfolding series
-  no_mark n l marked = stuck item mark text k n l (rw (taken, marked) refl)
+  no_mark n l marked = sym (stuck item mark text k n l (rw (taken, ← marked) refl))
 
-  pub no_item : (n : ℕ) (left : List ℕ) → k < n → skip (before mark k) rest ≡ parsed [] left → item left ≡ None → series item mark n text ≡ None
+  pub no_item : (n : ℕ) (left : List ℕ) → k < n → parsed [] left ≡ skip (before mark k) rest → None ≡ item left → None ≡ series item mark n text
   unfolding series
-  no_item n left l marked one_more = stuck item mark text k n l (rw (taken, marked, one_more) refl)
+  no_item n left l marked one_more = sym (stuck item mark text k n l (rw (taken, ← marked, ← one_more) refl))
+
+-- One field more of a record, whose values stand in a row.
+pub field_next : (text : List ℕ) (k : ℕ) (row rest left : List ℕ) (value : ℕ) (end : List ℕ) → series field comma k text ≡ parsed (take k row) rest → k < length row
+    → parsed [] left ≡ skip (before comma k) rest → parsed (value ∷ []) end ≡ field left → series field comma (k + 1) text ≡ parsed (take (k + 1) (set row k value)) end
+field_next text k row rest left value end taken within marked one_more =
+    rw (add-one k, take-suc-set row k value within, ← add-one k) (series_next field comma text k (take k row) rest taken left (value ∷ []) end marked one_more)

@@ -48,7 +48,7 @@ fn read_rates(n: usize, t: u32, text: &[u8], rates: &mut [u16]) -> Verdict
 
 // Writes the rates of a text to the list, row by row, and answers whether it did: N, T, the list's length, the text's rules,
 // then the sums.
-#[tactic(auto, unfolding(crate::specs::Read::read_text_of, crate::specs::Read::verdict_of))]
+#[tactic(auto, using(plan::proofs::RangeLaws::ports_range), unfolding(crate::specs::Read::read_text_of, crate::specs::Read::verdict_of))]
 pub fn read_text(n: usize, t: u32, text: &[u8], rates: &mut [u16]) -> Verdict
     ensures { outcome result rates.new ≡ read_text_of n t text.now rates.old }
 {

@@ -17,6 +17,7 @@ fn field_start(text: &[u8], k: usize) -> Option<&[u8]>
 }
 
 // A record, one value to each place of the row.
+#[tactic(auto, using(crate::proofs::SeriesLaws::no_mark, crate::proofs::SeriesLaws::no_item, crate::proofs::SeriesLaws::field_next), unfolding(crate::specs::Values::series))]
 fn read_record<'a>(text: &'a [u8], row: &mut [u16]) -> Option<&'a [u8]>
     ensures { option_map (λ rest. (row.new, rest.now)) result ≡ values.record_of (length row.old) text.now }
 {
@@ -39,6 +40,7 @@ fn record_start(text: &[u8], k: usize) -> Option<&[u8]>
 }
 
 // The records of n inputs, a row of the list to each. By number: of a list lent by `chunks_exact_mut` a proof knows only the length.
+#[tactic(auto, using(crate::proofs::SeriesLaws::no_mark, crate::proofs::RowLaws::no_record, crate::proofs::RowLaws::record_next), unfolding(crate::specs::Values::series))]
 fn read_records<'a>(text: &'a [u8], n: usize, list: &mut [u16]) -> Option<&'a [u8]>
     requires { length list.old ≡ n * n }
     ensures { option_map (λ rest. (list.new, rest.now)) result ≡ values.records_of n text.now }
