@@ -101,8 +101,7 @@ not_in_grammar : (read : List ℕ) → Text 2 (ascii "1,2\n3,4") read → ⊥
 unfolding skip digits_from number field series ends values_of is_digit
 not_in_grammar read h =
     let e : None ≡ Some read = (same_rules 2 (ascii "1,2\n3,4") read (omega arith)).1 h in
-    let z : ◌≡◌ {A = ℕ} 0 1 = cc in
-    omega arith
+    cc
 
 -- the lent list before the call
 abbrev before : List ℕ

@@ -33,7 +33,7 @@ values_counted : (n : ℕ) (text : List ℕ) → 1 ≤ n → is_text n text ≡ 
 values_counted n text some_port e = go (values_of n text) refl e
   where
     go : (o : Option (List ℕ)) → values_of n text ≡ o → is_some o ≡ true → length (values_in n text) ≡ n * n
-    go None h f = let z : ◌≡◌ {A = ℕ} 0 1 = cc in absurd (omega arith)
+    go None h f = cc
     go (Some values) h f = rw h (text_counted n text values ((same_rules n text values some_port).0 h))
 
 -- "16 for text that breaks these rules, after 1 to 3, before 4": of plan acceptance only the sums are left at the end
@@ -75,7 +75,7 @@ accepted_text n t text rates e =
     rw e (record { values = some_values (values_of n text) (not-false _ rules.0); plan = rules.1 })
   where
     some_values : (o : Option (List ℕ)) → is_some o ≡ true → o ≡ Some (unwrap_or o [])
-    some_values None f = let z : ◌≡◌ {A = ℕ} 0 1 = cc in absurd (omega arith)
+    some_values None f = cc
     some_values (Some values) f = refl
 
 -- no text for N ports is longer than the longest

@@ -4,7 +4,6 @@ use Prim.Native.Nat.{ℕ, zero, suc}
 use mathlib.Core.Path.{◌≡◌, refl, ap, sym, subst, ◌∙◌}
 use mathlib.Core.Bool.{Bool, true, false}
 use mathlib.Core.List.{List, [], ◌∷◌, ◌++◌, append_assoc, append-nil}
-use native.Mathlib.Omega.{arith}
 use lib.Dec.{eqb}
 use Rattle.std.specs.Prelude.{None, Some}
 use Rattle.std.proofs.lemmas.Option.{some_pair_parts}
@@ -33,7 +32,7 @@ abbrev pub Complete : (List ℕ → Parsed) → (List ℕ → List ℕ → Type 
 Complete rule Piece = (piece values rest : List ℕ) → Piece piece values → NoDigit rest → rule (piece ++ rest) ≡ parsed values rest
 
 pub never : {values rest : List ℕ} → None ≡ parsed values rest → ⊥
-never e = let z : ◌≡◌ {A = ℕ} 0 1 = cc in omega arith
+never e = cc
 
 -- Two rules behind one another took something: what each of them took.
 pub record Both (first : Parsed) (rule : List ℕ → Parsed) (values rest : List ℕ) : Type 0 where

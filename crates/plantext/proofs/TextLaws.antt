@@ -71,9 +71,9 @@ unfolding is_digit
 records_complete n = series_complete (record_of n) (Record n) line_end (record_complete n) (λ _. refl) n
 
 at_end_lem : (p : Parsed) → at_end p ≡ true → (values : List ℕ) × (p ≡ parsed values [])
-at_end_lem None e = let z : ◌≡◌ {A = ℕ} 0 1 = cc in absurd (omega arith)
+at_end_lem None e = cc
 at_end_lem (Some (values, [])) e = (values, refl)
-at_end_lem (Some (values, b ∷ rest)) e = let z : ◌≡◌ {A = ℕ} 0 1 = cc in absurd (omega arith)
+at_end_lem (Some (values, b ∷ rest)) e = cc
 
 or_true : (a b : Bool) → (a || b) ≡ true → (a ≡ true) ⊎ (b ≡ true)
 or_true true b e = inl refl
@@ -106,10 +106,10 @@ text_sound m text values e = go (records_of (suc m) text) refl e
     at early rest h true end f =
         let same : early ≡ values = cc in
         text_taken (suc m) (records_sound m text values rest (h ∙ ap (λ (l : List ℕ). parsed l rest) same)) (ends_cases rest end)
-    at early rest h false end f = let z : ◌≡◌ {A = ℕ} 0 1 = cc in absurd (omega arith)
+    at early rest h false end f = cc
 
     go : (p : Parsed) → records_of (suc m) text ≡ p → whole p ≡ Some values → Text (suc m) text values
-    go None h f = let z : ◌≡◌ {A = ℕ} 0 1 = cc in absurd (omega arith)
+    go None h f = cc
     go (Some (early, rest)) h f = at early rest h (ends rest) refl f
 
 text_complete : (n : ℕ) (text values : List ℕ) → Text n text values → values_of n text ≡ Some values
