@@ -97,8 +97,8 @@ serve_all-heads-requires c =
     let few_acting : c.acting-m.result ≤ most_ports = few_act c.args.self c.args.store.now size c.args.n c.args.valid c.args.fits c.requires _ by_desk _ c.room_for_all-room.ensures _ c.acting-m.ensures in
     few_acting
 
-pub run-ran-requires : goal.run-ran-requires
-run-ran-requires c =
+pub run-requires : goal.run-requires
+run-requires c =
     let size = owned_sized c.args.self _ c.well_formed.0 in
     let by_desk = rw c.takes_over-takeover.ensures at c.serve_all-boards.ensures in
     let a = c.args in
@@ -151,7 +151,7 @@ returns-then-takeover-m c =
     let columns = rw c.takes_over-takeover.ensures at c.columns_of.ensures in
     rw (c.replaced-next.ensures, c.cleared-next.ensures)
     (step_takes a.self a.store.now size a.n a.valid a.fits c.requires _ by_desk _ c.room_for_all-room.ensures _ c.acting-m.ensures _ _ refl columns _ c.serve_all-heads.ensures
-    _ c.run-ran.ensures _ c.next_slot.ensures _ c.verdict_by-verdict.ensures taking.0 taking.1)
+    _ c.run.ensures _ c.next_slot.ensures _ c.verdict_by-verdict.ensures taking.0 taking.1)
 
 pub returns-else-takeover-m : goal.returns-else-takeover-m
 returns-else-takeover-m c =
@@ -160,4 +160,4 @@ returns-else-takeover-m c =
     let a = c.args in
     let columns = rw c.takes_over-takeover.ensures at c.columns_of.ensures in
     step_keeps a.self a.store.now size a.n a.valid a.fits c.requires _ by_desk _ c.room_for_all-room.ensures _ c.acting-m.ensures _ _ refl columns _ c.serve_all-heads.ensures
-    _ c.run-ran.ensures _ c.next_slot.ensures _ c.verdict_by-verdict.ensures (rw c.takes_over-takeover.ensures at c.if-takeover-m.false)
+    _ c.run.ensures _ c.next_slot.ensures _ c.verdict_by-verdict.ensures (rw c.takes_over-takeover.ensures at c.if-takeover-m.false)
