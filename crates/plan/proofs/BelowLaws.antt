@@ -6,7 +6,8 @@ use mathlib.Core.Logic.{◌⊎◌, inl, inr, ⊎_elim}
 use native.Mathlib.Decide.{dec_lt}
 use native.Mathlib.Nat.{add-zero, zero-add, add-suc, zero-mul, suc-mul}
 use native.Mathlib.Omega.{arith}
-use lib.ListN.{length}
+use mathlib.Core.List.{List}
+use lib.ListN.{length, get_or}
 use Rattle.std.specs.Prelude.{MatchBool}
 use Rattle.std.specs.List.{AllWithin, HoldsAt, range_with_len}
 use Rattle.std.proofs.lemmas.List.FromFn.{length-range_with_len, get_or-range_with_len}
@@ -112,14 +113,19 @@ all_fails p n k l e = go (all_below p n) refl
     go true h = let t = all_holds p n h k l in let z : ◌≡◌ {A = ℕ} 0 1 = cc in absurd (omega arith)
     go false h = h
 
--- What `all` over 0, .., n - 1 answers, by what each call of its test answered.
+-- What `all` over a list answers, by what each call of its test answered; the list has x 0, .., x (n - 1).
+pub all_by_list : (p : ℕ → Bool) (x : ℕ → ℕ) (xs : List ℕ) (n : ℕ) (r : Bool) → length xs ≡ n → ((k : ℕ) → k < n → get_or xs k 0 ≡ x k)
+    → MatchBool r (AllWithin (λ m. p m ≡ true) xs 0 (length xs)) ((k : ℕ) × (k < length xs) × HoldsAt (λ m. p m ≡ false) xs k)
+    → r ≡ all_below (λ k. p (x k)) n
+all_by_list p x xs n true size has h = sym (all_intro (λ k. p (x k)) n (λ k l. rw (has k l) at (h k 0 (omega arith) (omega (arith, size)))))
+all_by_list p x xs n false size has h =
+    let below : h.0 < n = omega (arith, h.1, size) in
+    sym (all_fails (λ k. p (x k)) n h.0 below (rw (has h.0 below) at (h.2 0)))
+
+-- and over the numbers 0, .., n - 1
 pub all_by_range : (p : ℕ → Bool) (n : ℕ) (r : Bool)
     → MatchBool r
     (AllWithin (λ k. p k ≡ true) (range_with_len 0 n) 0 (length (range_with_len 0 n)))
     ((k : ℕ) × (k < length (range_with_len 0 n)) × HoldsAt (λ k. p k ≡ false) (range_with_len 0 n) k)
     → r ≡ all_below p n
-all_by_range p n true h =
-    sym (all_intro p n (λ k l. rw (get_or-range_with_len 0 n k 0 l ∙ zero-add k) at (h k 0 (omega arith) (omega (arith, length-range_with_len 0 n)))))
-all_by_range p n false h =
-    let below : h.0 < n = omega (arith, h.1, length-range_with_len 0 n) in
-    sym (all_fails p n h.0 below (rw (get_or-range_with_len 0 n h.0 0 below ∙ zero-add h.0) at (h.2 0)))
+all_by_range p n r = all_by_list p (λ k. k) (range_with_len 0 n) n r (length-range_with_len 0 n) (λ k l. get_or-range_with_len 0 n k 0 l ∙ zero-add k)
