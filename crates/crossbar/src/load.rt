@@ -9,6 +9,7 @@ use planpair::rates::overlay;
 use refusal::Refusal;
 
 impl Switch {
+    #[tactic(auto, unfolding(crate::specs::Load::load_verdict))]
     fn load_verdict(self, n: usize, t: u32, rates: &[u16]) -> Result<(), Refusal>
         ensures { result ≡ load_verdict self n t rates.now }
     {

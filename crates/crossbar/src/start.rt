@@ -45,6 +45,7 @@ fn fresh_with(plan: Plan, depth: usize) -> Switch
 }
 
 // Number 1 to 5 by the plan, then 6 and 7.
+#[tactic(auto, unfolding(crate::specs::Start::start_verdict))]
 fn start_verdict(n: usize, t: u32, rates: &[u16], depth: usize, len: usize) -> Result<(), Refusal>
     ensures { result ≡ start_verdict n t rates.now depth len }
 {

@@ -121,10 +121,10 @@ impl Switch {
         let fabric = self.fabric;
         let board_counts = fabric.boards;
         let boards = serve_all(board_counts, running, waiting, takeover, n, t, self.slot);
-        let turns = boards.turns;
+        let choices = boards.choices;
         let queues = fabric.queues;
         let points = fabric.crosspoints;
-        let room = room_for_all(queues, points, turns, n);
+        let room = room_for_all(queues, points, choices, n);
         let m = acting(n, room);
         let mut columns = [0u16; MOST_FLOWS];
         columns_of(running, waiting, takeover, n, &mut columns);

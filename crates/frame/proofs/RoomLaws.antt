@@ -11,7 +11,6 @@ use Rattle.planfile.proofs.ReadLaws.{accepted_plan}
 use Rattle.fabric.specs.Answer.{answer_of}
 use Rattle.fabric.specs.declared.flow.Answer.{Answer}
 use Rattle.fabric.specs.declared.flow.Answer.TheVariants.{Idle, Empty, Moved}
-use Rattle.fabric.specs.declared.flow.Port.{Port}
 use Rattle.fabric.proofs.NameLaws.{NamesPort}
 use Rattle.planpair.specs.Rates.{plan_rates}
 use Rattle.crossbar.specs.Start.{start_of}
@@ -42,8 +41,8 @@ choice_short Idle h = omega arith
 choice_short (Empty other) h = omega (arith, port_short other h)
 choice_short (Moved other cell) h = omega (arith, port_short other h)
 
-choices_short : (ports : List Port) (n : ℕ) → ((p : ℕ) → NamesPort (answer_of ports p)) → length (side_choices_of ports n) ≤ n * 3
-choices_short ports n named = below_short _ 3 n (λ p _. choice_short (answer_of ports p) (named p))
+choices_short : (answers : List Answer) (n : ℕ) → ((p : ℕ) → NamesPort (answer_of answers p)) → length (side_choices_of answers n) ≤ n * 3
+choices_short answers n named = below_short _ 3 n (λ p _. choice_short (answer_of answers p) (named p))
 
 slot_short : (s : Switch) (store : List ℕ) (n slot : ℕ) → n ≤ most_ports → slot < most_slots
     → length (slot_line_of slot (step_of s store).moves (step_of s store).sends n) ≤ slot_line_room

@@ -10,7 +10,6 @@ use Rattle.planfile.specs.Read.{read_of}
 use Rattle.fabric.specs.Answer.{answer_of}
 use Rattle.fabric.specs.declared.flow.Answer.{Answer}
 use Rattle.fabric.specs.declared.flow.Answer.TheVariants.{Idle, Empty, Moved}
-use Rattle.fabric.specs.declared.flow.Port.{Port}
 use Rattle.planpair.specs.Rates.{plan_rates}
 use Rattle.crossbar.specs.Start.{start_of}
 use Rattle.crossbar.specs.Step.{step_of}
@@ -50,11 +49,11 @@ choice_of (Empty other) = chosen_of other
 choice_of (Moved other cell) = chosen_of other
 
 -- the choices of the ports below n
-abbrev pub side_choices_of : List Port → ℕ → List ℕ
-side_choices_of ports n = text_below (λ p. choice_of (answer_of ports p)) n
+abbrev pub side_choices_of : List Answer → ℕ → List ℕ
+side_choices_of answers n = text_below (λ p. choice_of (answer_of answers p)) n
 
 -- "a line a slot with the slot, the output chosen by each input, the input chosen by each output"
-unfoldable pub slot_line_of : ℕ → List Port → List Port → ℕ → List ℕ
+unfoldable pub slot_line_of : ℕ → List Answer → List Answer → ℕ → List ℕ
 slot_line_of slot boards heads n = decimal_of slot ++ side_choices_of boards n ++ side_choices_of heads n ++ line_end
 
 -- the lines of the slots from `slot` on, `left` of them: each step gets the state that the last one returned, and "the

@@ -5,7 +5,7 @@ ghost use Rattle.console.specs.Text.{HasRoom, Written};
 ghost use Rattle.frame.specs.Printout.{names_of, chosen_of, choice_of, side_choices_of, header_of, slot_line_of};
 
 use console::text::{number, put};
-use fabric::flow::{Answer, Port};
+use fabric::flow::Answer;
 use plan::range::MOST_PORTS;
 
 // The names of the ports of one side.
@@ -30,11 +30,10 @@ fn chosen(out: &mut [u8], at: usize, other: usize) -> usize
 }
 
 // The port that another one chose.
-fn choice(out: &mut [u8], at: usize, port: Port) -> usize
-    requires { HasRoom out.old at (choice_of port.answer) }
-    ensures { Written out.old at (choice_of port.answer) out.new result }
+fn choice(out: &mut [u8], at: usize, answer: Answer) -> usize
+    requires { HasRoom out.old at (choice_of answer) }
+    ensures { Written out.old at (choice_of answer) out.new result }
 {
-    let answer = port.answer;
     match answer {
         Answer::Idle => put(out, at, b" -"),
         Answer::Empty(other) => chosen(out, at, other),
@@ -43,14 +42,13 @@ fn choice(out: &mut [u8], at: usize, port: Port) -> usize
 }
 
 // The choices of the ports of one side.
-fn choices(out: &mut [u8], from: usize, ports: [Port; MOST_PORTS], n: usize) -> usize
-    requires { (n ≤ most_ports) × HasRoom out.old from (side_choices_of ports n) }
-    ensures { Written out.old from (side_choices_of ports n) out.new result }
+fn choices(out: &mut [u8], from: usize, answers: [Answer; MOST_PORTS], n: usize) -> usize
+    requires { (n ≤ most_ports) × HasRoom out.old from (side_choices_of answers n) }
+    ensures { Written out.old from (side_choices_of answers n) out.new result }
 {
     let mut at = from;
     for p in 0..n {
-        let port = ports[p];
-        at = choice(out, at, port);
+        at = choice(out, at, answers[p]);
     }
     at
 }
@@ -69,8 +67,8 @@ pub fn slot_line(
     out: &mut [u8],
     at: usize,
     slot: u32,
-    boards: [Port; MOST_PORTS],
-    heads: [Port; MOST_PORTS],
+    boards: [Answer; MOST_PORTS],
+    heads: [Answer; MOST_PORTS],
     n: usize,
 ) -> usize
     requires { (n ≤ most_ports) × HasRoom out.old at (slot_line_of slot boards heads n) }

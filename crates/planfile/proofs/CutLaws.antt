@@ -10,11 +10,11 @@ use lib.Dec.{eqb}
 use lib.ListN.{length, take}
 use lib.Seq.{get_or-take, length-take-le, take_all}
 use borrow.Author.Tests.{le-ltb, ne_eqb, not-false}
-use Rattle.refusal.specs.Chain.{refuse_if, if_accepted}
+use Rattle.refusal.specs.Chain.{refuse_if, when_accepted}
 use Rattle.refusal.specs.declared.Refusal.{Refusal}
 use Rattle.refusal.specs.declared.Refusal.TheVariants.{PortsOutOfRange, FrameOutOfRange, NotPlanFile, FileLength}
 use Rattle.refusal.specs.Verdict.{Verdict}
-use Rattle.std.specs.Prelude.{Err}
+use Rattle.std.specs.Prelude.{Result, Err}
 use Rattle.refusal.proofs.ChainLaws.{refuse_ext}
 use Rattle.plan.specs.declared.Plan.{Plan}
 use Rattle.plan.specs.NoPlan.{no_plan}
@@ -22,7 +22,6 @@ use Rattle.plan.specs.Range.{ports_in_range, frame_in_range}
 use Rattle.plan.proofs.BelowLaws.{lt_or_le}
 use Rattle.plan.proofs.LineLaws.{square_small}
 use Rattle.plan.proofs.RangeLaws.{ports_range}
-use Rattle.planfile.specs.declared.Reading.{Reading}
 use Rattle.planfile.specs.Layout.{byte_at, is_marked, version_in, ports_in, frame_in, file_length, longest_file}
 use Rattle.planfile.specs.Read.{verdict_of, read_of}
 
@@ -40,9 +39,13 @@ marked_in file = is_marked file && eqb (version_in file) 1
 abbrev too_long_in : List ℕ → Verdict
 too_long_in file = too_long (marked_in file) (ports_in file) (frame_in file)
 
-refuse_kept : (b : Bool) (r : Refusal) (v : Verdict) (p q : Plan) → if_accepted v p q ≡ q → if_accepted (refuse_if b r v) p q ≡ q
-refuse_kept true r v p q h = refl
-refuse_kept false r v p q h = h
+-- a verdict that refuses gives no plan
+abbrev refused_by : Verdict → Result Plan Refusal
+refused_by v = when_accepted v no_plan
+
+refuse_kept : (b : Bool) (r : Refusal) (v : Verdict) (p : Plan) → when_accepted v p ≡ refused_by v → when_accepted (refuse_if b r v) p ≡ refused_by (refuse_if b r v)
+refuse_kept true r v p h = refl
+refuse_kept false r v p h = h
 
 no_plan_file : (file : List ℕ) → longest_file < length file → ports_in_range (ports_in file) ≡ true → eqb (length file) (file_length (ports_in file)) ≡ false
 no_plan_file file h e = ne_eqb (length file) _ (λ same. omega (arith, same, square_small (ports_in file) (ports_range (ports_in file) e).1))
@@ -56,17 +59,13 @@ long_verdict file h =
     refuse_ext (not (frame_in_range (frame_in file))) FrameOutOfRange λ _.
     simp (no_plan_file file h (not-false _ hn)))
 
-abbrev refused_by : Verdict → Reading
-refused_by v = record { verdict = v; plan = no_plan }
-
 long_read : (file : List ℕ) → longest_file < length file → read_of file ≡ refused_by (too_long_in file)
 unfolding read_of
 long_read file h =
     rw (long_verdict file h)
-    (ap (λ (p : Plan). record { verdict = too_long_in file; plan = p })
-    (refuse_kept (not (marked_in file)) NotPlanFile _ _ _
-    (refuse_kept (not (ports_in_range (ports_in file))) PortsOutOfRange _ _ _
-    (refuse_kept (not (frame_in_range (frame_in file))) FrameOutOfRange _ _ _ refl))))
+    (refuse_kept (not (marked_in file)) NotPlanFile _ _
+    (refuse_kept (not (ports_in_range (ports_in file))) PortsOutOfRange _ _
+    (refuse_kept (not (frame_in_range (frame_in file))) FrameOutOfRange _ _ refl)))
 
 module _ (m : ℕ) (file : List ℕ) (enough : longest_file < m) where
   -- the head is within the first m bytes

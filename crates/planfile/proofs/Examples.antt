@@ -8,11 +8,11 @@ use Rattle.plan.specs.Lines.{row_sum, column_sum}
 use Rattle.plan.specs.Range.{ports_in_range, frame_in_range}
 use Rattle.plan.specs.Accept.{accept_of}
 use Rattle.planfile.specs.Layout.{is_marked, rates_of, padded_to}
-use Rattle.planfile.specs.Read.{verdict_of, plan_of, reading_of, read_of}
+use Rattle.planfile.specs.Read.{verdict_of, plan_of, read_of}
 use Rattle.planfile.specs.Write.{head_of, rate_bytes, file_of}
 
 -- "4C 53 50 01 00 02 02 00 01 00 01 00 01 00 00 00 (hexadecimal)"
-scope_file_lem : read_of (76 ∷ 83 ∷ 80 ∷ 1 ∷ 0 ∷ 2 ∷ 2 ∷ 0 ∷ 1 ∷ 0 ∷ 1 ∷ 0 ∷ 1 ∷ 0 ∷ 0 ∷ 0 ∷ []) ≡ reading_of (Ok tt) (plan_of 2 2 (1 ∷ 1 ∷ 1 ∷ 0 ∷ []))
+scope_file_lem : read_of (76 ∷ 83 ∷ 80 ∷ 1 ∷ 0 ∷ 2 ∷ 2 ∷ 0 ∷ 1 ∷ 0 ∷ 1 ∷ 0 ∷ 1 ∷ 0 ∷ 0 ∷ 0 ∷ []) ≡ Ok (plan_of 2 2 (1 ∷ 1 ∷ 1 ∷ 0 ∷ []))
 unfolding read_of verdict_of is_marked rates_of padded_to ports_in_range frame_in_range accept_of row_sum column_sum
 scope_file_lem = refl
 

@@ -1,15 +1,16 @@
 -- The rates of a file, and an array that holds a list: filled place by place, and 0 past it.
-use Prim.Native.Nat.{ℕ, zero, suc, ◌+◌, ◌*◌, ◌-◌, ◌<◌, ◌≤◌}
-use mathlib.Core.Path.{◌≡◌, refl, ap, subst, ◌∙◌}
+use Prim.Native.Nat.{ℕ, zero, suc, ◌+◌, ◌-◌, ◌<◌, ◌≤◌}
+use mathlib.Core.Path.{◌≡◌, refl, ap, ◌∙◌}
 use mathlib.Core.List.{List, [], ◌∷◌, ◌++◌, append_assoc}
 use mathlib.Core.Logic.{⊎_elim}
+use native.Mathlib.Nat.{sub-zero}
 use native.Mathlib.Omega.{arith}
-use lib.ListN.{length, get_or, set, take, replicate, length-append, length-replicate, replicate-append-replicate, get_or-replicate, get_or-eq_default}
+use Rattle.std.proofs.lemmas.List.{take-replicate, drop-replicate}
+use lib.ListN.{length, get_or, set, take, drop, replicate, length-append, length-replicate, get_or-replicate, get_or-eq_default}
 use lib.Seq.{take_at, set_at, get_or-append-add}
-use Rattle.plan.specs.Range.{most_ports, most_flows}
+use Rattle.plan.specs.Range.{most_flows}
 use Rattle.plan.proofs.BelowLaws.{lt_or_le}
-use Rattle.plan.proofs.LineLaws.{square_small}
-use Rattle.planfile.specs.Layout.{word_at, rates_of, padded_to, padded}
+use Rattle.planfile.specs.Layout.{rates_of, padded_to, padded}
 
 pub rates_length : (file : List ℕ) (count : ℕ) → length (rates_of file count) ≡ count
 unfolding rates_of
@@ -24,9 +25,20 @@ padded_one size list k x e h =
     let next : size - length (list ++ (x ∷ [])) ≡ size - suc k = simp length-append (omega arith) in
     rw (places, next, append_assoc) (set_at list 0 _ x k e)
 
-pub padded_next : (file : List ℕ) (p : ℕ) → p < most_flows → set (padded (rates_of file p)) p (word_at file (8 + 2 * p)) ≡ padded (rates_of file (suc p))
-unfolding rates_of
-padded_next file p h = padded_one most_flows (rates_of file p) p (word_at file (8 + 2 * p)) (rates_length file p) h
+-- the first places of an array of zeros
+pub room_length : (n : ℕ) → n ≤ most_flows → length (take n (replicate {A = ℕ} most_flows 0)) ≡ n
+room_length n h = rw (take-replicate {X = ℕ} n most_flows 0 h) (length-replicate {A = ℕ} n 0)
+
+pub padded_none : (n : ℕ) → n ≤ most_flows → take n (replicate {A = ℕ} most_flows 0) ≡ padded_to n []
+unfolding padded_to
+padded_none n h = let whole : n - 0 ≡ n = sub-zero n in rw whole (take-replicate {X = ℕ} n most_flows 0 h)
+
+-- the first places are full, and the others are 0
+pub padded_room : (list : List ℕ) (n : ℕ) → length list ≡ n → n ≤ most_flows → padded_to n list ++ drop n (replicate {A = ℕ} most_flows 0) ≡ padded list
+unfolding padded_to
+padded_room list n e h =
+    let none : n - length list ≡ 0 = omega arith in
+    rw (none, e, drop-replicate {X = ℕ} n most_flows 0) (simp append_assoc)
 
 pub padded_take : (rates : List ℕ) (n : ℕ) → length rates ≡ n → take n (padded rates) ≡ rates
 unfolding padded_to
@@ -49,11 +61,3 @@ padded_past rates p h =
     let e : p ≡ length rates + (p - length rates) = omega arith in
     let left = most_flows - length rates in
     ap (λ (q : ℕ). get_or (padded rates) q 0) e ∙ get_or-append-add rates (replicate left 0) (p - length rates) 0 ∙ zeros left (p - length rates)
-
--- the first places of an array of zeros
-pub zeros_taken : (n : ℕ) → n ≤ most_ports → take (n * n) (replicate {A = ℕ} most_flows 0) ≡ replicate (n * n) 0
-zeros_taken n few =
-    let left = most_flows - n * n in
-    let all : n * n + left ≡ most_flows = omega (arith, square_small n few) in
-    subst (λ (k : ℕ). take (n * n) (replicate {A = ℕ} k 0) ≡ replicate (n * n) 0) all
-    (rw (← replicate-append-replicate {A = ℕ} (n * n) left 0) (take_at (replicate (n * n) 0) (replicate left 0) (n * n) (length-replicate (n * n) 0)))

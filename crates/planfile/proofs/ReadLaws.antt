@@ -1,7 +1,7 @@
--- The verdict in the scope's order, and for those who go on with what was read: an accepted file holds a plan, a
--- refused one leaves nothing but 0.
+-- The verdict in the scope's order, and for those who go on with what was read: an accepted file holds a plan, and the
+-- refusal of another is its verdict's.
 use Prim.Native.Nat.{ℕ, ◌*◌}
-use mathlib.Core.Path.{◌≡◌, refl}
+use mathlib.Core.Path.{◌≡◌, subst}
 use mathlib.Core.Bool.{true, ◌&&◌, not}
 use mathlib.Core.List.{List}
 use native.Mathlib.Omega.{arith}
@@ -12,14 +12,14 @@ use Rattle.refusal.specs.Chain.{refuse_if}
 use Rattle.refusal.specs.declared.Refusal.{Refusal}
 use Rattle.refusal.specs.declared.Refusal.TheVariants.{PortsOutOfRange, FrameOutOfRange, RowAboveFrame, ColumnAboveFrame, NotPlanFile, FileLength}
 use Rattle.std.specs.Prelude.{Ok, Err}
-use Rattle.refusal.proofs.ChainLaws.{refuse_passed, refuse_ext}
+use Rattle.refusal.proofs.ChainLaws.{refuse_passed, refuse_ext, value_accepted, refusal_kept}
 use Rattle.plan.specs.Lines.{row_sum, column_sum}
+use Rattle.plan.specs.declared.Plan.{Plan}
 use Rattle.plan.specs.Range.{most_flows, ports_in_range, frame_in_range}
 use Rattle.plan.specs.Accept.{within_frame, IsPlan}
 use Rattle.plan.proofs.AcceptLaws.{accepted, sums_decide}
 use Rattle.plan.proofs.LineLaws.{square_small}
 use Rattle.planfile.specs.Layout.{is_marked, version_in, ports_in, frame_in, file_length}
-use Rattle.plan.specs.NoPlan.{no_plan}
 use Rattle.planfile.specs.Read.{rates_in, verdict_of, plan_of, read_of, FilePlan}
 use Rattle.planfile.proofs.LayoutLaws.{rates_length, padded_take, padded_length, padded_past}
 
@@ -72,10 +72,16 @@ plan_read n t rates p =
       zero_past = λ q h. padded_past rates q (omega (arith, p.square));
     }
 
-pub accepted_plan : (file : List ℕ) → (read_of file).verdict ≡ Ok tt → FilePlan (read_of file).plan
+-- a file that gives a plan is accepted, and the plan is the one that stands in it
+pub read_accepted : (file : List ℕ) (plan : Plan) → read_of file ≡ Ok plan → (verdict_of file ≡ Ok tt) × (plan_of (ports_in file) (frame_in file) (rates_in file) ≡ plan)
 unfolding read_of
-accepted_plan file e = rw e (plan_read (ports_in file) (frame_in file) (rates_in file) (accepted_file file e).plan)
+read_accepted file plan e = value_accepted (verdict_of file) (plan_of (ports_in file) (frame_in file) (rates_in file)) plan e
 
-pub refused_plan : (file : List ℕ) (r : Refusal) → (read_of file).verdict ≡ Err r → (read_of file).plan ≡ no_plan
+pub accepted_plan : (file : List ℕ) (plan : Plan) → read_of file ≡ Ok plan → FilePlan plan
+accepted_plan file plan e =
+    let known = read_accepted file plan e in
+    subst FilePlan known.1 (plan_read (ports_in file) (frame_in file) (rates_in file) (accepted_file file known.0).plan)
+
+pub refused_plan : (file : List ℕ) (r : Refusal) → read_of file ≡ Err r → verdict_of file ≡ Err r
 unfolding read_of
-refused_plan file r e = rw e refl
+refused_plan file r e = refusal_kept (verdict_of file) (plan_of (ports_in file) (frame_in file) (rates_in file)) r e

@@ -8,12 +8,11 @@ use mathlib.Core.Logic.{⊎_elim}
 use native.Mathlib.Numerals.{add-one}
 use native.Mathlib.Omega.{arith}
 use lib.Dec.{eqb}
-use lib.ListN.{length, get_or, set, take, length-append, get_or-append}
+use lib.ListN.{length, get_or, take, length-append, get_or-append}
 use lib.Seq.{take-suc, get_or-append-add, get_or_at, take_all, ext_get_or}
 use borrow.Author.Tests.{le-ltb, eqb-true, eq-eqb}
-use Rattle.refusal.specs.declared.Refusal.{Refusal}
-use Rattle.refusal.specs.Verdict.{Verdict}
-use Rattle.std.specs.Prelude.{Ok, Err}
+use Rattle.std.specs.Prelude.{Ok}
+use Rattle.std.specs.Int.{w16, to_le_bytes}
 use Rattle.plan.specs.Range.{most_flows}
 use Rattle.plan.specs.Accept.{accept_of}
 use Rattle.plan.proofs.AcceptLaws.{accepted}
@@ -22,36 +21,20 @@ use Rattle.plan.proofs.BelowLaws.{and_true, below_or_last}
 use Rattle.plan.proofs.LineLaws.{square_small}
 use Rattle.plan.proofs.ListLaws.{length_list, get_d_list}
 use Rattle.plan.proofs.RangeLaws.{ports_in_lem, frame_in_lem}
-use Rattle.planfile.specs.Layout.{byte_at, word_at, is_marked, version_in, ports_in, frame_in, file_length, longest_file, rates_of, padded_to}
+use Rattle.planfile.specs.Layout.{byte_at, word_at, is_marked, version_in, ports_in, frame_in, file_length, longest_file, rates_of}
 use Rattle.planfile.specs.Read.{verdict_of, read_of}
-use Rattle.planfile.specs.Write.{word_of, head_of, rate_bytes, file_of, writing_of, write_of, ReadsBack, AreBytes, WritesBack}
-use Rattle.planfile.proofs.LayoutLaws.{rates_length, padded_one, padded_take, padded_length}
-use Rattle.planfile.proofs.ReadLaws.{accepted_file}
+use Rattle.planfile.specs.Write.{word_of, head_of, rate_bytes, file_of, write_of, ReadsBack, AreBytes, WritesBack}
+use Rattle.planfile.proofs.LayoutLaws.{rates_length, padded_take}
+use Rattle.planfile.proofs.ReadLaws.{accepted_file, read_accepted}
 
 head_length : (n t : ℕ) → length (head_of n t) ≡ 8
 unfolding head_of
 head_length n t = refl
 
-pub head_room_lem : (n t : ℕ) → length (head_of n t) ≤ longest_file
-head_room_lem n t = omega (arith, head_length n t)
-
 rate_bytes_length : (rates : List ℕ) (count : ℕ) → length (rate_bytes rates count) ≡ 2 * count
 unfolding rate_bytes
 rate_bytes_length rates zero = refl
 rate_bytes_length rates (suc p) = simp length-append (omega (arith, rate_bytes_length rates p))
-
--- one rate more is written into the array
-pub file_next : (n t : ℕ) (rates : List ℕ) (p : ℕ) → p < most_flows → let rate = get_or rates p 0 in
-    set (set (padded_to longest_file (head_of n t ++ rate_bytes rates p)) (8 + 2 * p) (rate % 256)) (8 + 2 * p + 1) (rate / 256)
-    ≡ padded_to longest_file (head_of n t ++ rate_bytes rates (suc p))
-unfolding rate_bytes
-file_next n t rates p h =
-    let rate = get_or rates p 0 in
-    let front = head_of n t ++ rate_bytes rates p in
-    let size : length front ≡ 8 + 2 * p = omega (arith, length-append (head_of n t) (rate_bytes rates p), head_length n t, rate_bytes_length rates p) in
-    let more : length (front ++ (rate % 256 ∷ [])) ≡ 8 + 2 * p + 1 = omega (arith, length-append front (rate % 256 ∷ [])) in
-    rw (padded_one longest_file front (8 + 2 * p) (rate % 256) size (omega arith), padded_one longest_file (front ++ (rate % 256 ∷ [])) (8 + 2 * p + 1) (rate / 256) more (omega arith))
-    (ap (padded_to longest_file) (simp append_assoc))
 
 pub file_length_lem : (n t : ℕ) (rates : List ℕ) → length (file_of n t rates) ≡ 8 + 2 * length rates
 unfolding file_of
@@ -177,34 +160,36 @@ module _ (file : List ℕ) (bytes : AreBytes file) (marked : (is_marked file && 
       rw (next, rate_read file count c l, word, ← append_assoc, file_read count c (omega arith), add-one) (simp append_assoc)
 
 pub writes_back : WritesBack
-unfolding read_of file_of
-writes_back file bytes e =
-    let known = accepted_file file e in
+unfolding file_of
+writes_back file plan bytes e =
+    let read = read_accepted file plan e in
+    let known = accepted_file file read.0 in
     let n = ports_in file in
     let rates = rates_of file (n * n) in
     let count = rates_length file (n * n) in
-    rw (e, padded_take rates (n * n) count, count)
+    rw (sym read.1, padded_take rates (n * n) count, count)
     (file_read file bytes known.marked (n * n) (n * n) (omega arith)
     ∙ ap (list_below (byte_at file)) (sym known.whole)
     ∙ all_bytes file)
 
--- what an accepted plan, and a refused one, are written as
-pub write_accepted : (n t : ℕ) (rates : List ℕ) → accept_of n t rates ≡ Ok tt → write_of n t rates ≡ writing_of (Ok tt) (file_of n t rates)
+-- an accepted plan is written as its file
+pub write_accepted : (n t : ℕ) (rates : List ℕ) → accept_of n t rates ≡ Ok tt → write_of n t rates ≡ Ok (record { items = file_of n t rates })
 unfolding write_of
 write_accepted n t rates e = rw e refl
-
-pub refused_same : (r : Refusal) (file other : List ℕ) → writing_of (Err r) file ≡ writing_of (Err r) other
-unfolding writing_of
-refused_same r file other = refl
-
--- the bytes of a file are within the array
-pub writing_within : (v : Verdict) (file : List ℕ) → (v ≡ Ok tt → length file ≤ longest_file) → (writing_of v file).length ≤ length (writing_of v file).bytes
-unfolding writing_of
-writing_within (Ok _) file short = omega (arith, padded_length longest_file file (short refl), short refl)
-writing_within (Err r) file short = omega arith
 
 -- no file of an accepted plan is longer than the longest
 pub file_short : (n t : ℕ) (rates : List ℕ) → accept_of n t rates ≡ Ok tt → length (file_of n t rates) ≤ longest_file
 file_short n t rates e =
     let plan = accepted n t rates e in
     omega (arith, file_length_lem n t rates, square_small n plan.few_ports, plan.square)
+
+-- one rate more behind the head and the first p
+pub file_next : (n t : ℕ) (rates : List ℕ) (p : ℕ) → get_or rates p 0 < 65536
+    → (head_of n t ++ rate_bytes rates p) ++ to_le_bytes w16 (get_or rates p 0) ≡ head_of n t ++ rate_bytes rates (suc p)
+unfolding rate_bytes
+file_next n t rates p small =
+    let high : get_or rates p 0 / 256 % 256 ≡ get_or rates p 0 / 256 = omega arith in
+    rw (append_assoc, high) refl
+
+pub file_room : (n t : ℕ) (rates : List ℕ) (p : ℕ) → p < most_flows → length (head_of n t ++ rate_bytes rates p) + 2 ≤ longest_file
+file_room n t rates p h = simp length-append (omega (arith, head_length n t, rate_bytes_length rates p))

@@ -1,14 +1,12 @@
--- Reading a plan file. "File: under 8 bytes 15, then 14, 1, 2, 15, 4, 5." "Where an operation was handed no state
--- or plan and would answer one, the refusal's is all 0."
-use Rattle.std.specs.Prelude.{ℕ, ◌*◌, ◌≤◌, ◌&&◌, not, List, ◌≡◌, ltb, eqb, length, get_or, take}
-use Rattle.refusal.specs.Chain.{refuse_if, if_accepted}
+-- Reading a plan file. "File: under 8 bytes 15, then 14, 1, 2, 15, 4, 5."
+use Rattle.std.specs.Prelude.{ℕ, ◌*◌, ◌≤◌, ◌&&◌, not, List, ◌≡◌, ltb, eqb, length, get_or, take, Result}
+use Rattle.refusal.specs.Chain.{refuse_if, when_accepted}
+use Rattle.refusal.specs.declared.Refusal.{Refusal}
 use Rattle.refusal.specs.declared.Refusal.TheVariants.{PortsOutOfRange, FrameOutOfRange, NotPlanFile, FileLength}
 use Rattle.refusal.specs.Verdict.{Verdict}
 use Rattle.plan.specs.declared.Plan.{Plan}
 use Rattle.plan.specs.Range.{most_flows, ports_in_range, frame_in_range}
 use Rattle.plan.specs.Accept.{accept_of, IsPlan}
-use Rattle.plan.specs.NoPlan.{no_plan}
-use Rattle.planfile.specs.declared.Reading.{Reading}
 use Rattle.planfile.specs.Layout.{is_marked, version_in, ports_in, frame_in, file_length, rates_of, padded}
 
 -- the N × N rates of a file
@@ -28,11 +26,8 @@ abbrev pub plan_of : ℕ → ℕ → List ℕ → Plan
 plan_of n t rates = record { ports = n; frame = t; rates = padded rates }
 
 -- the plan goes with an accepted file only
-abbrev pub reading_of : Verdict → Plan → Reading
-reading_of verdict plan = record { verdict = verdict; plan = if_accepted verdict plan no_plan }
-
-unfoldable pub read_of : List ℕ → Reading
-read_of file = reading_of (verdict_of file) (plan_of (ports_in file) (frame_in file) (rates_in file))
+unfoldable pub read_of : List ℕ → Result Plan Refusal
+read_of file = when_accepted (verdict_of file) (plan_of (ports_in file) (frame_in file) (rates_in file))
 
 -- What is known of the plan of an accepted file, by proofs/ReadLaws.antt.
 pub record FilePlan (plan : Plan) : Type 0 where

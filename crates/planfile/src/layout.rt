@@ -11,18 +11,12 @@ pub const HEAD: usize = 8;
 
 pub const VERSION: u16 = 1;
 
-fn wide(x: u8) -> u16
-    ensures { (result ≡ x) × (result < 256) }
-{
-    x as u16
-}
-
 // The 16-bit number at a place, low byte first.
 fn word_at(bytes: &[u8], at: usize) -> u16
     requires { at + 1 < length bytes.now }
     ensures { result ≡ word_at bytes.now at }
 {
-    wide(bytes[at]) + 256 * wide(bytes[at + 1])
+    u16::from_le_bytes([bytes[at], bytes[at + 1]])
 }
 
 // Whether the file begins with the mark and the version.
@@ -31,30 +25,21 @@ pub fn is_plan_file(bytes: &[u8]) -> bool
     requires { 8 ≤ length bytes.now }
     ensures { result ≡ (is_marked bytes.now && eqb (version_in bytes.now) 1) }
 {
-    if bytes[0] != b'L' {
-        return false;
-    }
-    if bytes[1] != b'S' {
-        return false;
-    }
-    if bytes[2] != b'P' {
-        return false;
-    }
-    word_at(bytes, 3) == VERSION
+    bytes.starts_with(b"LSP") && word_at(bytes, 3) == VERSION
 }
 
 pub fn ports_in(bytes: &[u8]) -> usize
     requires { 8 ≤ length bytes.now }
     ensures { result ≡ ports_in bytes.now }
 {
-    wide(bytes[5]) as usize
+    usize::from(bytes[5])
 }
 
 pub fn frame_in(bytes: &[u8]) -> u32
     requires { 8 ≤ length bytes.now }
     ensures { result ≡ frame_in bytes.now }
 {
-    word_at(bytes, 6) as u32
+    u32::from(word_at(bytes, 6))
 }
 
 // The first `count` rates, and 0 in the places past them.
@@ -62,9 +47,9 @@ pub fn rates_of(bytes: &[u8], count: usize) -> [u16; MOST_FLOWS]
     requires { (count ≤ most_flows) × (8 + 2 * count ≤ length bytes.now) }
     ensures { result ≡ padded (rates_of bytes.now count) }
 {
-    let mut rates = [0u16; MOST_FLOWS];
-    for p in 0..count {
-        rates[p] = word_at(bytes, HEAD + 2 * p);
+    let mut rates = [0; MOST_FLOWS];
+    for (p, rate) in rates[..count].iter_mut().enumerate() {
+        *rate = word_at(bytes, HEAD + 2 * p);
     }
     rates
 }

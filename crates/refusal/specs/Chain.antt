@@ -1,6 +1,6 @@
 -- How a call arrives at its verdict: conditions are looked at in a fixed order, and the first one
 -- that holds decides.
-use Rattle.std.specs.Prelude.{Bool, true, false, Ok, Err}
+use Rattle.std.specs.Prelude.{Bool, true, false, Result, Ok, Err}
 use Rattle.refusal.specs.declared.Refusal.{Refusal}
 use Rattle.refusal.specs.Verdict.{Verdict}
 
@@ -18,3 +18,8 @@ and_then (Err r) rest = Err r
 abbrev pub if_accepted : {A : Type 0} → Verdict → A → A → A
 if_accepted (Ok _) x y = x
 if_accepted (Err r) x y = y
+
+-- what the call gives: the value where it was accepted, and the refusal where it was not
+abbrev pub when_accepted : {A : Type 0} → Verdict → A → Result A Refusal
+when_accepted (Ok _) x = Ok x
+when_accepted (Err r) x = Err r

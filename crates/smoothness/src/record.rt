@@ -5,17 +5,17 @@ ghost use Rattle.meter.specs.Record.{entry_of, next_slot};
 ghost use Rattle.smoothness.specs.Printout.{three_frames_of};
 
 use meter::IDLE_SLOT;
-use multiplexer::{Choice, Multiplexer};
+use multiplexer::Multiplexer;
 use plan::range::{MOST_PORTS, MOST_SLOTS};
 
 // Room for the record of three frames.
 pub const RECORD_ROOM: usize = 3 * MOST_SLOTS as usize;
 
-fn entry(choice: Choice) -> u16
+fn entry(choice: Option<usize>) -> u16
     requires { ChoosesPort choice }
     ensures { result ≡ entry_of choice }
 {
-    let Choice::Flow(flow) = choice else {
+    let Some(flow) = choice else {
         return IDLE_SLOT;
     };
     flow as u16

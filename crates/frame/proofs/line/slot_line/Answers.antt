@@ -1,12 +1,12 @@
 use Rattle.std.proofs.Common.{List, arith, length, length-append, ℕ, ◌+◌, ◌≤◌}
-use Rattle.fabric.specs.declared.flow.Port.{Port}
+use Rattle.fabric.specs.declared.flow.Answer.{Answer}
 use Rattle.console.specs.Text.{decimal_of, HasRoom}
 use Rattle.frame.specs.Printout.{side_choices_of, slot_line_of}
 use Rattle.console.proofs.TextLaws.{written_on}
 use Rattle.frame.proofs.line.slot_line.Goals as goal
 
 -- the slot, the choices of both sides and the line's end
-room : (slot : ℕ) (boards heads : List Port) (n : ℕ) {buffer : List ℕ} {at : ℕ} → HasRoom buffer at (slot_line_of slot boards heads n)
+room : (slot : ℕ) (boards heads : List Answer) (n : ℕ) {buffer : List ℕ} {at : ℕ} → HasRoom buffer at (slot_line_of slot boards heads n)
     → at + (length (decimal_of slot) + length (side_choices_of boards n) + length (side_choices_of heads n) + 1) ≤ length buffer
 unfolding slot_line_of
 room slot boards heads n r = omega (arith, simp length-append at r.enough)
