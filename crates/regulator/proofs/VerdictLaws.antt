@@ -7,9 +7,8 @@ use lib.Dec.{leb}
 use lib.ListN.{length, get_or}
 use Rattle.refusal.specs.Chain.{refuse_if}
 use Rattle.refusal.proofs.ChainLaws.{then_passed}
-use Rattle.refusal.specs.declared.Refusal.{Refusal}
 use Rattle.refusal.specs.declared.Refusal.TheVariants.{RowAboveFrame, ColumnAboveFrame}
-use Rattle.std.specs.Prelude.{Ok, Err}
+use Rattle.std.specs.Prelude.{Ok}
 use Rattle.plan.specs.Lines.{row_sum, column_sum}
 use Rattle.plan.specs.Accept.{within_frame, accept_of}
 use Rattle.plan.proofs.BelowLaws.{all_ext}
@@ -20,11 +19,7 @@ use Rattle.regulator.specs.Sums.{LineSums}
 use Rattle.regulator.specs.Boost.{boost_verdict}
 use Rattle.regulator.proofs.OutcomeLaws.{lists_passed, lists_pass}
 
--- the verdict where the first checks refuse, and where they pass, from the kept sums
-
-pub lists_refused : (n t : ℕ) (given rates : List ℕ) (r : Refusal) → lists_of n t (length given) (length rates) ≡ Err r → boost_verdict n t given rates ≡ Err r
-unfolding boost_verdict
-lists_refused n t given rates r e = rw e
+-- the verdict where the first checks pass, from the kept sums
 
 pub sums_verdict : (n t : ℕ) (given rates rows columns : List ℕ) → lists_of n t (length given) (length rates) ≡ Ok tt → LineSums given n rows columns
     → boost_verdict n t given rates
