@@ -44,7 +44,8 @@ module _ (text : ℕ → List ℕ) where
   below_short k zero h = omega arith
   below_short k (suc n) h = omega (arith, below_longer n, below_short k n (λ p l. h p (omega arith)), h n (omega arith))
 
-  -- put behind the text `before`: none, then one more, which may be empty; and where there is room for all, there is for the next
+  -- put behind the text `before`: none, then one more, which may be empty, and so all; where there is room for all, there is for
+  -- the next
   module _ (before : List ℕ) where
     pub below_start : before ≡ before ++ text_below text 0
     unfolding text_below
@@ -57,8 +58,11 @@ module _ (text : ℕ → List ℕ) where
       pub below_skip : text p ≡ [] → now ≡ before ++ text_below text (p + 1)
       below_skip e = below_step e (sym (append-nil now))
 
-      pub below_room : {n room : ℕ} → p < n → length before + length (text_below text n) ≤ room → length now + length (text p) ≤ room
-      below_room {n} l enough = omega (arith, ap length so_far, length-append before (text_below text p), below_within p n l)
+      pub below_end : {n : ℕ} → p ≡ n → now ≡ before ++ text_below text n
+      below_end e = rw (← e) so_far
+
+      pub below_room : {n : ℕ} → p < n → length now + length (text p) ≤ length before + length (text_below text n)
+      below_room {n} l = omega (arith, ap length so_far, length-append before (text_below text p), below_within p n l)
 
 -- the first one, and the others
 pub below_first : (text : ℕ → List ℕ) (n : ℕ) → text_below text (suc n) ≡ text 0 ++ text_below (λ k. text (suc k)) n
