@@ -75,3 +75,6 @@ pub below_same : (text text' : ℕ → List ℕ) (n : ℕ) → ((p : ℕ) → p 
 unfolding text_below
 below_same text text' zero h = refl
 below_same text text' (suc n) h = rw (below_same text text' n (λ p l. h p (omega arith)), h n (omega arith)) refl
+
+-- for the functions that put them so
+pub ruleset put_below = (below_start, below_step, below_skip, below_end)

@@ -36,6 +36,7 @@ fn line(out: &mut Text, value: u64)
 }
 
 // The lines of rate a.
+#[tactic(auto, using(console::proofs::TextBelowLaws::put_below), unfolding(crate::specs::Printout::rate_lines_of))]
 fn rate_lines(out: &mut Text, a: u32)
     requires { (1 ≤ a) × (a ≤ table_frame) × (array_string_len out.old + length (rate_lines_of a) ≤ printout_room) }
     ensures { out.new.bytes ≡ out.old.bytes ++ rate_lines_of a }
@@ -46,6 +47,7 @@ fn rate_lines(out: &mut Text, a: u32)
 }
 
 // The lines of all rates.
+#[tactic(auto, using(console::proofs::TextBelowLaws::put_below), unfolding(crate::specs::Printout::printout_of))]
 pub fn printout() -> Text
     ensures { result.bytes ≡ printout_of }
 {
