@@ -95,6 +95,7 @@ fn next_slot(n: usize, slot: u32, t: u32) -> u32
 impl Switch {
     // The slot in which n ports choose, by what was judged of 12 and 7: none do where the step is refused by then. 13 is
     // judged by the boards' choices; where it refuses, no port acts.
+    #[tactic(auto, using(crate::proofs::StepLaws::few_choose, plan::proofs::LineLaws::square_small))]
     fn slot(self, store: &[u32], n: usize, valid: bool, fits: bool) -> SlotReply
         requires { Judged self (length store.now) n valid fits }
         ensures { Steps self store.now result }
