@@ -7,16 +7,15 @@ use Rattle.crossbar.proofs.StepLaws.{running_part, waiting_part, few_choose, boa
 use Rattle.crossbar.proofs.state.Switch.slot.Goals as goal
 
 pub slice_bounds-running-end : goal.slice_bounds-running-end
-slice_bounds-running-end c = sym (running_part _ (owned_sized c.args.self _ c.well_formed.0) _ (few_choose _ _ _ _ _ c.requires))
+slice_bounds-running-end c = sym (running_part _ (owned_sized _ _ c.well_formed.0) _ (few_choose _ _ _ _ _ c.requires))
 
 pub slice_bounds-waiting-end : goal.slice_bounds-waiting-end
-slice_bounds-waiting-end c = sym (waiting_part _ (owned_sized c.args.self _ c.well_formed.0) _ (few_choose _ _ _ _ _ c.requires))
+slice_bounds-waiting-end c = sym (waiting_part _ (owned_sized _ _ c.well_formed.0) _ (few_choose _ _ _ _ _ c.requires))
 
 pub room_for_all-room-requires : goal.room_for_all-room-requires
 room_for_all-room-requires c =
-    let a = c.args in
     let by_desk = rw c.takes_over-takeover.ensures at c.serve_all-boards.ensures in
-    boards_can a.self a.store.now (owned_sized a.self _ c.well_formed.0) a.n a.valid a.fits c.requires _ by_desk
+    boards_can _ _ (owned_sized _ _ c.well_formed.0) _ _ _ c.requires _ by_desk
 
 pub columns_of-requires : goal.columns_of-requires
 columns_of-requires c =
@@ -26,49 +25,42 @@ columns_of-requires c =
 
 pub slice_bounds-rows-end : goal.slice_bounds-rows-end
 slice_bounds-rows-end c =
-    let a = c.args in
     let by_desk = rw c.takes_over-takeover.ensures at c.serve_all-boards.ensures in
-    sym (length-take-le _ _ (omega (arith, square_small _ (few_act a.self a.store.now (owned_sized a.self _ c.well_formed.0) a.n a.valid a.fits c.requires _ by_desk _ c.room_for_all-room.ensures _ c.acting-m.ensures))))
+    sym (length-take-le _ _ (omega (arith, square_small _ (few_act _ _ (owned_sized _ _ c.well_formed.0) _ _ _ c.requires _ by_desk _ c.room_for_all-room.ensures _ c.acting-m.ensures))))
 
 pub run-requires : goal.run-requires
 run-requires c =
-    let a = c.args in
     let by_desk = rw c.takes_over-takeover.ensures at c.serve_all-boards.ensures in
     record {
-      moves = moves_can a.self a.store.now (owned_sized a.self _ c.well_formed.0) a.n a.valid a.fits c.requires _ by_desk _ c.room_for_all-room.ensures _ c.acting-m.ensures;
-      sends = heads_can a.self a.store.now (owned_sized a.self _ c.well_formed.0) a.n a.valid a.fits c.requires _ by_desk _ c.room_for_all-room.ensures _ c.acting-m.ensures _ _ refl (rw c.takes_over-takeover.ensures at c.columns_of.ensures) _ c.serve_all-heads.ensures;
+      moves = moves_can _ _ (owned_sized _ _ c.well_formed.0) _ _ _ c.requires _ by_desk _ c.room_for_all-room.ensures _ c.acting-m.ensures;
+      sends = heads_can _ _ (owned_sized _ _ c.well_formed.0) _ _ _ c.requires _ by_desk _ c.room_for_all-room.ensures _ c.acting-m.ensures _ _ refl (rw c.takes_over-takeover.ensures at c.columns_of.ensures) _ c.serve_all-heads.ensures;
     }
 
 pub next_slot-requires : goal.next_slot-requires
 next_slot-requires c =
-    let a = c.args in
     let by_desk = rw c.takes_over-takeover.ensures at c.serve_all-boards.ensures in
-    next_fits a.self a.store.now (owned_sized a.self _ c.well_formed.0) a.n a.valid a.fits c.requires _ by_desk _ c.room_for_all-room.ensures _ c.acting-m.ensures
+    next_fits _ _ (owned_sized _ _ c.well_formed.0) _ _ _ c.requires _ by_desk _ c.room_for_all-room.ensures _ c.acting-m.ensures
 
 pub replaced-next-requires : goal.replaced-next-requires
 replaced-next-requires c =
-    let a = c.args in
     let by_desk = rw c.takes_over-takeover.ensures at c.serve_all-boards.ensures in
-    few_taken a.self a.store.now (owned_sized a.self _ c.well_formed.0) a.n a.valid a.fits c.requires _ by_desk _ c.room_for_all-room.ensures _ c.acting-m.ensures (rw c.takes_over-takeover.ensures at c.if-takeover-m.true)
+    few_taken _ _ (owned_sized _ _ c.well_formed.0) _ _ _ c.requires _ by_desk _ c.room_for_all-room.ensures _ c.acting-m.ensures (rw c.takes_over-takeover.ensures at c.if-takeover-m.true)
 
 pub cleared-next-requires : goal.cleared-next-requires
 cleared-next-requires c =
-    let a = c.args in
     let by_desk = rw c.takes_over-takeover.ensures at c.serve_all-boards.ensures in
-    few_taken a.self a.store.now (owned_sized a.self _ c.well_formed.0) a.n a.valid a.fits c.requires _ by_desk _ c.room_for_all-room.ensures _ c.acting-m.ensures (rw c.takes_over-takeover.ensures at c.if-takeover-m.true)
+    few_taken _ _ (owned_sized _ _ c.well_formed.0) _ _ _ c.requires _ by_desk _ c.room_for_all-room.ensures _ c.acting-m.ensures (rw c.takes_over-takeover.ensures at c.if-takeover-m.true)
 
 pub returns-then-takeover-m : goal.returns-then-takeover-m
 returns-then-takeover-m c =
-    let a = c.args in
     let by_desk = rw c.takes_over-takeover.ensures at c.serve_all-boards.ensures in
-    let t = taking a.self a.store.now (owned_sized a.self _ c.well_formed.0) a.n a.valid a.fits c.requires _ by_desk _ c.room_for_all-room.ensures _ c.acting-m.ensures (rw c.takes_over-takeover.ensures at c.if-takeover-m.true) in
+    let t = taking _ _ (owned_sized _ _ c.well_formed.0) _ _ _ c.requires _ by_desk _ c.room_for_all-room.ensures _ c.acting-m.ensures (rw c.takes_over-takeover.ensures at c.if-takeover-m.true) in
     rw (c.replaced-next.ensures, c.cleared-next.ensures)
-    (step_takes a.self a.store.now (owned_sized a.self _ c.well_formed.0) a.n a.valid a.fits c.requires _ by_desk _ c.room_for_all-room.ensures _ c.acting-m.ensures _ _ refl (rw c.takes_over-takeover.ensures at c.columns_of.ensures) _ c.serve_all-heads.ensures
+    (step_takes _ _ (owned_sized _ _ c.well_formed.0) _ _ _ c.requires _ by_desk _ c.room_for_all-room.ensures _ c.acting-m.ensures _ _ refl (rw c.takes_over-takeover.ensures at c.columns_of.ensures) _ c.serve_all-heads.ensures
     _ c.run.ensures _ c.next_slot.ensures _ c.verdict_by-verdict.ensures t.0 t.1)
 
 pub returns-else-takeover-m : goal.returns-else-takeover-m
 returns-else-takeover-m c =
-    let a = c.args in
     let by_desk = rw c.takes_over-takeover.ensures at c.serve_all-boards.ensures in
-    step_keeps a.self a.store.now (owned_sized a.self _ c.well_formed.0) a.n a.valid a.fits c.requires _ by_desk _ c.room_for_all-room.ensures _ c.acting-m.ensures _ _ refl (rw c.takes_over-takeover.ensures at c.columns_of.ensures) _ c.serve_all-heads.ensures
+    step_keeps _ _ (owned_sized _ _ c.well_formed.0) _ _ _ c.requires _ by_desk _ c.room_for_all-room.ensures _ c.acting-m.ensures _ _ refl (rw c.takes_over-takeover.ensures at c.columns_of.ensures) _ c.serve_all-heads.ensures
     _ c.run.ensures _ c.next_slot.ensures _ c.verdict_by-verdict.ensures (rw c.takes_over-takeover.ensures at c.if-takeover-m.false)
