@@ -15,7 +15,7 @@ use plan::acceptance::accept;
 use plan::desk::desk_view;
 use planfile::read;
 use plantext::read_text;
-use records::{ReadingRecord, reading_record, verdict_number};
+use records::{ReadingRecord, verdict_number};
 use regulator::boost::boost;
 use regulator::scale::scale;
 
@@ -82,7 +82,7 @@ pub extern "C" fn gambyre_boost(
 pub extern "C" fn gambyre_read(bytes: &[u8]) -> ReadingRecord
     ensures { result ≡ reading_record (read_of bytes.now) }
 {
-    reading_record(read(bytes))
+    ReadingRecord::from(read(bytes))
 }
 
 #[unsafe(no_mangle)]

@@ -3,8 +3,7 @@ use crate::report::{report_at, say};
 use meter::cover;
 
 pub fn record(rt: &impl Print, slots: &[u16], l: usize) {
-    let measured = cover(slots, 0, l);
-    let verdict = measured.verdict;
     say(rt, b"l = ", l);
+    let verdict = cover(slots, 0, l).map(|_| ());
     report_at(rt, b", slots in the record: ", slots.len(), verdict);
 }

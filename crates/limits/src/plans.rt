@@ -18,9 +18,7 @@ pub fn ports(rt: &impl Print, n: usize, rates: &[u16]) {
 }
 
 pub fn file(rt: &impl Print, what: &[u8], bytes: &[u8]) {
-    let reading = read(bytes);
-    let verdict = reading.verdict;
-    report(rt, what, verdict);
+    report(rt, what, read(bytes).map(|_| ()));
 }
 
 // A text for one port.

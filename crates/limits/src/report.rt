@@ -1,13 +1,13 @@
 // The lines of the table: what was tried, and the verdict.
-use refusal::{Refusal, verdict_number};
+use refusal::Refusal;
 
 fn end_line(rt: &impl Print, verdict: Result<(), Refusal>) {
-    let Err(_) = verdict else {
+    let Err(refusal) = verdict else {
         let _ = rt.write_all(b" accepted\n");
         return;
     };
     let _ = rt.write_all(b" refused ");
-    let _ = rt.print(u64::from(verdict_number(verdict)));
+    let _ = rt.print(u64::from(refusal.number()));
     let _ = rt.write_all(b"\n");
 }
 

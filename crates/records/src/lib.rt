@@ -10,9 +10,8 @@ ghost use Rattle.records.specs.Records.{other_of, cell_of, answer_record, port_r
 use crossbar::state::{Reply, SlotReply, Switch};
 use fabric::flow::Answer;
 use meter::{Measured, Stretch};
-use plan::Plan;
 use plan::range::MOST_PORTS;
-use planfile::Reading;
+use plan::{Plan, no_plan};
 use refusal::Refusal;
 
 // The kinds of a port's answer.
@@ -96,8 +95,7 @@ fn other_of(answer: Answer) -> usize
 {
     match answer {
         Answer::Idle => 0,
-        Answer::Empty(other) => other,
-        Answer::Moved(other, _) => other,
+        Answer::Empty(other) | Answer::Moved(other, _) => other,
     }
 }
 
@@ -105,20 +103,21 @@ fn cell_of(answer: Answer) -> u32
     ensures { result ≡ cell_of answer }
 {
     match answer {
-        Answer::Idle => 0,
-        Answer::Empty(_) => 0,
+        Answer::Idle | Answer::Empty(_) => 0,
         Answer::Moved(_, cell) => cell,
     }
 }
 
 // Field by field: a processor need not foresee which kind comes.
-fn port_record(answer: Answer) -> PortRecord
-    ensures { result ≡ answer_record answer }
-{
-    PortRecord {
-        kind: kind_of(answer),
-        other: other_of(answer),
-        cell: cell_of(answer),
+impl From<Answer> for PortRecord {
+    ghost from_gives = { λ answer r. r ≡ answer_record answer };
+
+    fn from(answer: Answer) -> PortRecord {
+        PortRecord {
+            kind: kind_of(answer),
+            other: other_of(answer),
+            cell: cell_of(answer),
+        }
     }
 }
 
@@ -126,85 +125,108 @@ fn port_record(answer: Answer) -> PortRecord
 fn port_records(answers: [Answer; MOST_PORTS]) -> [PortRecord; MOST_PORTS]
     ensures { result ≡ port_records answers }
 {
-    let mut records = [PortRecord {
-        kind: IDLE,
-        other: 0,
-        cell: 0,
-    }; MOST_PORTS];
+    let mut records = [PortRecord::from(Answer::Idle); MOST_PORTS];
     for p in 0..MOST_PORTS {
-        records[p] = port_record(answers[p]);
+        records[p] = PortRecord::from(answers[p]);
     }
     records
 }
 
-pub fn choice_record(choice: Option<usize>) -> ChoiceRecord
-    ensures { result ≡ choice_record choice }
-{
-    match choice {
-        None => ChoiceRecord {
-            kind: NO_FLOW,
-            flow: 0,
-        },
-        Some(flow) => ChoiceRecord { kind: FLOW, flow },
+impl From<Option<usize>> for ChoiceRecord {
+    ghost from_gives = { λ choice r. r ≡ choice_record choice };
+
+    fn from(choice: Option<usize>) -> ChoiceRecord {
+        match choice {
+            None => ChoiceRecord {
+                kind: NO_FLOW,
+                flow: 0,
+            },
+            Some(flow) => ChoiceRecord { kind: FLOW, flow },
+        }
     }
 }
 
 // The choice that a caller hands over; every kind but NO_FLOW is a flow.
-pub fn choice_in(choice: ChoiceRecord) -> Option<usize>
-    ensures { result ≡ choice_in choice }
-{
-    if choice.kind == NO_FLOW {
-        return None;
-    }
-    Some(choice.flow)
-}
+impl From<ChoiceRecord> for Option<usize> {
+    ghost from_gives = { λ choice r. r ≡ choice_in choice };
 
-pub fn reply_record(reply: Reply) -> ReplyRecord
-    ensures { result ≡ reply_record reply }
-{
-    let verdict = reply.verdict;
-    let state = reply.state;
-    ReplyRecord {
-        verdict: verdict_number(verdict),
-        state,
+    fn from(choice: ChoiceRecord) -> Option<usize> {
+        if choice.kind == NO_FLOW {
+            None
+        } else {
+            Some(choice.flow)
+        }
     }
 }
 
-pub fn slot_record(reply: SlotReply) -> SlotRecord
-    ensures { result ≡ slot_record reply }
-{
-    let verdict = reply.verdict;
-    let state = reply.state;
-    let moves = reply.moves;
-    let sends = reply.sends;
-    SlotRecord {
-        verdict: verdict_number(verdict),
-        state,
-        moves: port_records(moves),
-        sends: port_records(sends),
+impl From<Reply> for ReplyRecord {
+    ghost from_gives = { λ reply r. r ≡ reply_record reply };
+
+    fn from(reply: Reply) -> ReplyRecord {
+        ReplyRecord {
+            verdict: verdict_number(reply.verdict),
+            state: reply.state,
+        }
     }
 }
 
-pub fn reading_record(reading: Reading) -> ReadingRecord
-    ensures { result ≡ reading_record reading }
-{
-    let verdict = reading.verdict;
-    let plan = reading.plan;
-    ReadingRecord {
-        verdict: verdict_number(verdict),
-        plan,
+impl From<SlotReply> for SlotRecord {
+    ghost from_gives = { λ reply r. r ≡ slot_record reply };
+
+    fn from(reply: SlotReply) -> SlotRecord {
+        let SlotReply {
+            state,
+            verdict,
+            moves,
+            sends,
+        } = reply;
+        SlotRecord {
+            verdict: verdict_number(verdict),
+            state,
+            moves: port_records(moves),
+            sends: port_records(sends),
+        }
     }
 }
 
-pub fn cover_record(measured: Measured) -> CoverRecord
-    ensures { result ≡ cover_record measured }
-{
-    let verdict = measured.verdict;
-    let least = measured.least;
-    let most = measured.most;
-    CoverRecord {
-        verdict: verdict_number(verdict),
-        least,
-        most,
+impl From<Result<Plan, Refusal>> for ReadingRecord {
+    ghost from_gives = { λ reading r. r ≡ reading_record reading };
+
+    fn from(reading: Result<Plan, Refusal>) -> ReadingRecord {
+        match reading {
+            Ok(plan) => ReadingRecord {
+                verdict: verdict_number(Ok(())),
+                plan,
+            },
+            Err(refusal) => ReadingRecord {
+                verdict: verdict_number(Err(refusal)),
+                plan: no_plan(),
+            },
+        }
+    }
+}
+
+impl From<Result<Measured, Refusal>> for CoverRecord {
+    ghost from_gives = { λ measured r. r ≡ cover_record measured };
+
+    fn from(measured: Result<Measured, Refusal>) -> CoverRecord {
+        match measured {
+            Ok(Measured { least, most }) => CoverRecord {
+                verdict: verdict_number(Ok(())),
+                least,
+                most,
+            },
+            Err(refusal) => {
+                let none = Stretch {
+                    services: 0,
+                    place: 0,
+                };
+                CoverRecord {
+                    verdict: verdict_number(Err(refusal)),
+                    least: none,
+                    most: none,
+                }
+            }
+        }
     }
 }
