@@ -100,6 +100,9 @@ impl Switch {
         requires { Judged self (length store.now) n valid fits }
         ensures { Steps self store.now result }
     {
+        // Made first: a copy that is made after the services costs 1,024 bytes more.
+        let mut next = self;
+        // Local copies: a part of the state that is lent keeps the whole in one piece, which the compiler then copies.
         let rates = self.running.rates;
         let waiting_rates = self.waiting.rates;
         let running = &rates[..n * n];
@@ -120,12 +123,11 @@ impl Switch {
             sends,
         } = fabric.run(store, boards, heads, m, self.depth);
         let verdict = verdict_by(valid, fits, room);
-        let mut next = self;
         next.slot = next_slot(m, self.slot, t);
         next.fabric = after;
         if takeover & (m != 0) {
-            next.running = replaced(self.running, self.waiting);
-            next.waiting = cleared(self.waiting);
+            next.running = replaced(next.running, next.waiting);
+            next.waiting = cleared(next.waiting);
             next.waits = 0;
         }
         SlotReply {
