@@ -27,7 +27,8 @@ fn read_record<'a>(text: &'a [u8], row: &mut [u16]) -> Option<&'a [u8]>
     Some(rest)
 }
 
-// The records of n inputs, a row of the list to each. By number: of a list lent by `chunks_exact_mut` a proof knows only the length.
+// The records of n inputs, a row of the list to each. By number: of a list that `chunks_exact_mut` lent, a proof knows only the
+// length.
 #[tactic(auto, using(crate::proofs::SeriesLaws::no_mark, crate::proofs::RowLaws::no_record, crate::proofs::RowLaws::record_next), unfolding(crate::specs::Values::series))]
 fn read_records<'a>(text: &'a [u8], n: usize, list: &mut [u16]) -> Option<&'a [u8]>
     requires { length list.old ≡ n * n }
