@@ -12,6 +12,7 @@ ghost use Rattle.crossbar.specs.Step.{verdict_by, Judged, Steps, IdlesOnly};
 use crate::state::{SlotReply, Switch};
 use crate::valid::store_fits;
 use fabric::moves::room_for_all;
+use fabric::slot::AfterSlot;
 use plan::range::MOST_FLOWS;
 use planpair::takeover::{cleared, replaced};
 use refusal::Refusal;
@@ -94,6 +95,7 @@ fn next_slot(n: usize, slot: u32, t: u32) -> u32
 impl Switch {
     // The slot in which n ports choose, by what was judged of 12 and 7: none do where the step is refused by then. 13 is
     // judged by the boards' choices; where it refuses, no port acts.
+    #[tactic(auto, using(crate::proofs::StepLaws::few_choose, plan::proofs::LineLaws::square_small))]
     fn slot(self, store: &[u32], n: usize, valid: bool, fits: bool) -> SlotReply
         requires { Judged self (length store.now) n valid fits }
         ensures { Steps self store.now result }
@@ -112,20 +114,23 @@ impl Switch {
         columns_of(running, waiting, takeover, n, &mut columns);
         let rows = &columns[..m * m];
         let heads = serve_all(fabric.heads, rows, rows, false, m, t, self.slot);
-        let ran = fabric.run(store, boards, heads, m, self.depth);
+        let AfterSlot {
+            fabric: after,
+            moves,
+            sends,
+        } = fabric.run(store, boards, heads, m, self.depth);
+        let verdict = verdict_by(valid, fits, room);
         let mut next = self;
         next.slot = next_slot(m, self.slot, t);
-        next.fabric = ran.fabric;
-        if takeover && m != 0 {
+        next.fabric = after;
+        if takeover & (m != 0) {
             next.running = replaced(self.running, self.waiting);
             next.waiting = cleared(self.waiting);
             next.waits = 0;
         }
-        let moves = ran.moves;
-        let sends = ran.sends;
         SlotReply {
             state: next,
-            verdict: verdict_by(valid, fits, room),
+            verdict,
             moves,
             sends,
         }

@@ -40,7 +40,15 @@ impl Switch {
         let waiting = self.waiting.rates;
         let waits = self.waits != 0;
         let fabric = self.fabric;
-        if !plans_valid(n, t, &rates, self.waiting.ports, self.waiting.frame, &waiting, waits) {
+        if !plans_valid(
+            n,
+            t,
+            &rates,
+            self.waiting.ports,
+            self.waiting.frame,
+            &waiting,
+            waits,
+        ) {
             return false;
         }
         depth_in_range(self.depth)

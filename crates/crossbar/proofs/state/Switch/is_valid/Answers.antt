@@ -1,10 +1,9 @@
-use Prim.Native.Nat.{ℕ, ◌≤◌}
+use Prim.Native.Nat.{◌≤◌}
 use mathlib.Core.Bool.{Bool, true}
 use mathlib.Core.Path.{◌≡◌, sym, ◌∙◌}
 use native.Mathlib.Omega.{arith}
 use Rattle.plan.specs.Range.{most_ports}
 use Rattle.plan.specs.declared.Plan.{Plan}
-use Rattle.plan.proofs.TestLaws.{passed}
 use Rattle.plan.proofs.LineLaws.{square_small}
 use Rattle.planpair.specs.Valid.{plans_valid}
 use Rattle.planpair.proofs.ValidLaws.{running_valid}
