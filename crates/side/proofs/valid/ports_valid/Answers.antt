@@ -12,4 +12,4 @@ returns c =
     let r = c.args.rates.now in
     let valid = λ (p : ℕ). port_valid r.list.now (get_or c.args.ports p no_multiplexer).served r.n (p * r.across) r.along c.args.slot in
     all_by_range valid r.n _ (cases_from_all _ _ _ (λ p. valid p ≡ true) (λ p. valid p ≡ false) c.all.ensures.ran (YieldsList-from_range 0 r.n r.n refl (omega arith))
-        (λ k q h. search (rules, tests)) (λ k q h. search (rules, tests)))
+    (λ k q h. search (rules, tests)) (λ k q h. search (rules, tests)))
