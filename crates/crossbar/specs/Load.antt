@@ -1,13 +1,13 @@
 -- "A load puts an accepted plan in waiting", and "the later plan replaces the waiting one" (L5). Order: 12, 1 to 5, 8. Only
 -- the waiting plan's N, T and rates for ports below N are written.
-use Rattle.std.specs.Prelude.{ℕ, ◌*◌, ◌≡◌, true, not, ◌&&◌, List, eqb, Ok}
+use Rattle.std.specs.Prelude.{ℕ, ◌≡◌, true, not, ◌&&◌, List, eqb, Ok}
 use Rattle.refusal.specs.Chain.{refuse_if, and_then, if_accepted}
 use Rattle.refusal.specs.declared.Refusal.TheVariants.{StateInvalid, PlanMismatch}
 use Rattle.refusal.specs.Verdict.{Verdict}
 use Rattle.plan.specs.Accept.{accept_of, IsPlan}
 use Rattle.plan.specs.declared.Plan.{Plan}
 use Rattle.crossbar.specs.Valid.{valid_of}
-use Rattle.planpair.specs.Rates.{overlaid}
+use Rattle.crossbar.specs.Start.{plan_over}
 use Rattle.crossbar.specs.declared.state.Switch.{Switch}
 use Rattle.crossbar.specs.declared.state.Reply.{Reply}
 
@@ -38,7 +38,7 @@ pub record CanLoad (s : Switch) (n t : ℕ) (rates : List ℕ) : Type 0 where
 
 -- a state with a plan laid into its waiting one
 abbrev pub with_waiting : Switch → ℕ → ℕ → List ℕ → Switch
-with_waiting s n t rates = with_plans s s.running (record { ports = n; frame = t; rates = overlaid s.waiting.rates rates (n * n) }) 1
+with_waiting s n t rates = with_plans s s.running (plan_over s.waiting n t rates) 1
 
 unfoldable pub load_of : Switch → ℕ → ℕ → List ℕ → Reply
 load_of s n t rates =

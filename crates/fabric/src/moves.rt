@@ -70,11 +70,11 @@ impl Fabric {
         ensures { result ≡ moved_of n depth store.now choices self }
     {
         let mut answers = [Answer::Idle; MOST_PORTS];
-        for i in 0..n {
-            let Some(other) = choices[i] else {
+        for (i, choice) in choices[..n].iter().enumerate() {
+            let Some(other) = choice else {
                 continue;
             };
-            let j = usize::from(other);
+            let j = usize::from(*other);
             let k = flow_place(n, i, j);
             let queue = self.queues[k];
             let cell = store[queue.oldest_place(n, depth, k)];

@@ -38,11 +38,11 @@ impl Fabric {
         ensures { result ≡ sent_of n choices self }
     {
         let mut answers = [Answer::Idle; MOST_PORTS];
-        for j in 0..n {
-            let Some(other) = choices[j] else {
+        for (j, choice) in choices[..n].iter().enumerate() {
+            let Some(other) = choice else {
                 continue;
             };
-            let i = usize::from(other);
+            let i = usize::from(*other);
             let k = flow_place(n, i, j);
             let sent = send_cell(self.crosspoints[k], i);
             self.crosspoints[k] = sent.point;

@@ -1,19 +1,22 @@
 -- There is one answer for each record, flow and length.
-use Prim.Native.Nat.{ℕ, ◌-◌, ◌≤◌}
+use Prim.Native.Nat.{ℕ, ◌-◌, ◌<◌, ◌≤◌}
 use mathlib.Core.Path.{◌≡◌, refl, ap, sym, subst, ◌∙◌}
 use mathlib.Core.Bool.{Bool, true, false, ◌||◌}
 use mathlib.Core.List.{List}
+use mathlib.Core.Logic.{◌⊎◌, ⊎_elim}
 use native.Mathlib.Omega.{arith}
 use lib.Dec.{ltb}
 use lib.ListN.{length}
-use borrow.Author.Tests.{le-ltb, ltb-false}
-use Rattle.refusal.specs.Chain.{if_accepted}
+use borrow.Author.Tests.{lt-ltb, le-ltb, ltb-false}
+use Rattle.refusal.specs.Chain.{when_accepted}
+use Rattle.refusal.specs.declared.Refusal.{Refusal}
+use Rattle.refusal.specs.declared.Refusal.TheVariants.{RecordLength}
 use Rattle.refusal.specs.Verdict.{Verdict}
-use Rattle.std.specs.Prelude.{Ok, Err}
-use Rattle.refusal.proofs.ChainLaws.{refused_not_accepted, refuse_passed}
+use Rattle.std.specs.Prelude.{Result, Ok, Err}
+use Rattle.refusal.proofs.ChainLaws.{refuse_passed}
 use Rattle.meter.specs.Cover.{most_record, cover_at, Inside, FirstBest}
-use Rattle.meter.specs.Answer.{cover_verdict, Measures, refused_cover, CoversUnder, Covers, NoSlots, OneAnswer}
-use Rattle.meter.specs.Search.{or_less, or_more, kept_to, cover_of}
+use Rattle.meter.specs.Answer.{cover_verdict, Measures, CoversUnder, Covers, NoSlots, OneAnswer}
+use Rattle.meter.specs.Search.{fewer, more, kept_to, measured_of, cover_of}
 use Rattle.meter.specs.declared.Measured.{Measured}
 use Rattle.meter.specs.declared.Stretch.{Stretch}
 use Rattle.meter.proofs.CoverLaws.{cover_within}
@@ -30,9 +33,16 @@ accepted_record slots l e =
     let both = or_false (ltb slots l) (ltb most_record slots) (refuse_passed _ _ _ e).0 in
     (ltb-false slots l both.0, ltb-false most_record slots both.1)
 
-record_accepted : (slots l : ℕ) → l ≤ slots → slots ≤ most_record → cover_verdict slots l ≡ Ok tt
+pub record_accepted : (slots l : ℕ) → l ≤ slots → slots ≤ most_record → cover_verdict slots l ≡ Ok tt
 unfolding cover_verdict
 record_accepted slots l h short = rw (le-ltb slots l h, le-ltb most_record slots short) refl
+
+pub record_refused : (slots l : ℕ) → (slots < l) ⊎ ((l ≤ slots) × (most_record < slots)) → cover_verdict slots l ≡ Err RecordLength
+unfolding cover_verdict
+record_refused slots l =
+    ⊎_elim
+    (λ (h : slots < l). rw (lt-ltb slots l h) refl)
+    (λ (h : (l ≤ slots) × (most_record < slots)). rw (le-ltb slots l h.0, lt-ltb most_record slots h.1) refl)
 
 module _ (recorded : List ℕ) (flow l : ℕ) where
   abbrev c : ℕ → ℕ
@@ -42,43 +52,47 @@ module _ (recorded : List ℕ) (flow l : ℕ) where
   last = length recorded - l
 
   -- what is kept of all places is the first best of those inside
-  found : {R : ℕ → ℕ → Type 0} → Order R → (or : Stretch → ℕ → ℕ → Stretch) → Keeps R or → l ≤ length recorded → FirstBest R (Inside recorded l) c (kept_to or c last)
-  found order or keeps h = first_in (λ t m. omega arith) (λ t m. omega arith) (kept_first order or keeps c last)
+  found : {R : ℕ → ℕ → Type 0} → Order R → (better : ℕ → ℕ → Bool) → Keeps R better → l ≤ length recorded → FirstBest R (Inside recorded l) c (kept_to better c last)
+  found order better keeps h = first_in (λ t m. omega arith) (λ t m. omega arith) (kept_first order better keeps c last)
 
-  pub kept_measures : l ≤ length recorded → Measures recorded flow l (record { verdict = Ok tt; least = kept_to or_less c last; most = kept_to or_more c last })
-  kept_measures h = record { accepted = refl; least = found at_least or_less less_keeps h; most = found at_most or_more more_keeps h }
+  pub kept_measures : l ≤ length recorded → Measures recorded flow l (measured_of recorded flow l)
+  unfolding measured_of
+  kept_measures h = record { least = found at_least fewer less_keeps h; most = found at_most more more_keeps h }
 
-  covers_under : (v : Verdict) → (v ≡ Ok tt → l ≤ length recorded)
-      → CoversUnder v recorded flow l (if_accepted v (record { verdict = v; least = kept_to or_less c last; most = kept_to or_more c last }) (refused_cover v))
+  covers_under : (v : Verdict) → (v ≡ Ok tt → l ≤ length recorded) → CoversUnder v recorded flow l (when_accepted v (measured_of recorded flow l))
   covers_under (Ok _) h = kept_measures (h refl)
   covers_under (Err why) h = refl
 
-  only_under : (v : Verdict) (r r' : Measured) → CoversUnder v recorded flow l r → CoversUnder v recorded flow l r' → r ≡ r'
-  only_under (Ok _) r r' m m' =
+  measured_only : (r r' : Measured) → Measures recorded flow l r → Measures recorded flow l r' → r ≡ r'
+  measured_only r r' m m' =
       let least = first_only at_least (Inside recorded l) c r.least r'.least m.least m'.least in
       let most = first_only at_most (Inside recorded l) c r.most r'.most m.most m'.most in
-      ap (λ (v : Verdict). record { verdict = v; least = r.least; most = r.most }) (m.accepted ∙ sym m'.accepted)
-      ∙ ap (λ (s : Stretch). record { verdict = r'.verdict; least = s; most = r.most }) least
-      ∙ ap (λ (s : Stretch). record { verdict = r'.verdict; least = r'.least; most = s }) most
+      ap (λ (s : Stretch). record { least = s; most = r.most }) least
+      ∙ ap (λ (s : Stretch). record { least = r'.least; most = s }) most
+
+  only_under : (v : Verdict) (r r' : Result Measured Refusal) → CoversUnder v recorded flow l r → CoversUnder v recorded flow l r' → r ≡ r'
+  only_under (Ok _) (Ok r) (Ok r') m m' = ap Ok (measured_only r r' m m')
+  only_under (Ok _) (Ok r) (Err why) m m' = absurd m'
+  only_under (Ok _) (Err why) r' m m' = absurd m
   only_under (Err why) r r' m m' = m ∙ sym m'
 
   -- what the code answers under its verdict
-  pub covers_as : (v : Verdict) (r : Measured) → v ≡ cover_verdict (length recorded) l → CoversUnder v recorded flow l r → Covers recorded flow l r
+  pub covers_as : (v : Verdict) (r : Result Measured Refusal) → v ≡ cover_verdict (length recorded) l → CoversUnder v recorded flow l r → Covers recorded flow l r
   covers_as v r e is = subst (λ (w : Verdict). CoversUnder w recorded flow l r) e is
 
   -- an answer that is not refused is measured
-  pub covers_measures : (r : Measured) → Covers recorded flow l r → r.verdict ≡ Ok tt → Measures recorded flow l r
-  covers_measures r covers e = go (cover_verdict (length recorded) l) covers
+  pub covers_measures : (r : Measured) → Covers recorded flow l (Ok r) → Measures recorded flow l r
+  covers_measures r covers = go (cover_verdict (length recorded) l) covers
     where
-      go : (v : Verdict) → CoversUnder v recorded flow l r → Measures recorded flow l r
+      go : (v : Verdict) → CoversUnder v recorded flow l (Ok r) → Measures recorded flow l r
       go (Ok _) is = is
-      go (Err why) is = absurd (refused_not_accepted why (sym (ap (λ (x : Measured). x.verdict) is) ∙ e))
+      go (Err why) is = let z : ◌≡◌ {A = ℕ} 0 1 = cc in absurd (omega arith)
 
   pub cover_is : Covers recorded flow l (cover_of recorded flow l)
   unfolding cover_of
   cover_is = covers_under (cover_verdict (length recorded) l) (λ e. (accepted_record (length recorded) l e).0)
 
-  pub cover_only : (r : Measured) → Covers recorded flow l r → r ≡ cover_of recorded flow l
+  pub cover_only : (r : Result Measured Refusal) → Covers recorded flow l r → r ≡ cover_of recorded flow l
   cover_only r is = only_under (cover_verdict (length recorded) l) r (cover_of recorded flow l) is cover_is
 
   pub one_answer : OneAnswer (Covers recorded flow l)
@@ -88,7 +102,6 @@ pub no_slots : (recorded : List ℕ) (flow : ℕ) → NoSlots recorded flow
 no_slots recorded flow short =
     covers_as recorded flow 0 (Ok tt) _ (sym (record_accepted (length recorded) 0 (omega arith) short))
     record {
-      accepted = refl;
       least = record { inside = omega arith; there = sym (none 0); none_better = λ t i. omega arith; none_earlier = λ t i e. omega arith };
       most = record { inside = omega arith; there = sym (none 0); none_better = λ t i. omega (arith, none t); none_earlier = λ t i e. omega arith };
     }

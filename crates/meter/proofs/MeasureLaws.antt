@@ -1,13 +1,15 @@
--- What `measure` knows before it looks at a place p: the services at the place before, and the first best of all before.
-use Prim.Native.Nat.{ℕ, zero, suc, ◌+◌, ◌-◌, ◌≤◌}
-use mathlib.Core.Path.{◌≡◌, refl, ap, sym, ◌∙◌}
+-- What `measure` knows at a place p, before it looks at the next one: the services there, and the first best up to there.
+use Prim.Native.Nat.{ℕ, suc, ◌+◌, ◌-◌, ◌<◌, ◌≤◌}
+use mathlib.Core.Path.{◌≡◌, refl, ap, ◌∙◌}
 use mathlib.Core.List.{List}
+use native.Mathlib.Nat.{add_comm}
+use native.Mathlib.Numerals.{add-one}
 use native.Mathlib.Omega.{arith}
-use lib.ListN.{length}
-use Rattle.std.specs.Prelude.{Ok}
-use Rattle.meter.specs.Cover.{cover_at}
+use lib.ListN.{length, get_or, take, drop}
+use Rattle.std.proofs.lemmas.List.{get_or-take, get_or-drop, length-take-le, length-drop}
+use Rattle.meter.specs.Cover.{service_in, cover_at}
 use Rattle.meter.specs.Answer.{Measures}
-use Rattle.meter.specs.Search.{or_less, or_more, kept_to}
+use Rattle.meter.specs.Search.{fewer, more, or_better, kept_to, measured_of}
 use Rattle.meter.specs.declared.Stretch.{Stretch}
 use Rattle.meter.proofs.CoverLaws.{at, cover_slides}
 use Rattle.meter.proofs.AnswerLaws.{kept_measures}
@@ -17,39 +19,33 @@ module _ (recorded : List ℕ) (flow l : ℕ) where
   c = cover_at recorded flow l
 
   pub record Looked (p services : ℕ) (least most : Stretch) : Type 0 where
-    pub some : 1 ≤ p
-    pub here : services ≡ c (p - 1)
-    pub fewest : least ≡ kept_to or_less c (p - 1)
-    pub largest : most ≡ kept_to or_more c (p - 1)
+    pub here : services ≡ c p
+    pub fewest : least ≡ kept_to fewer c p
+    pub largest : most ≡ kept_to more c p
 
-  pub looked_first : (services : ℕ) → services ≡ c 0 → Looked 1 services (record { services = services; place = 0 }) (record { services = services; place = 0 })
+  pub looked_first : (services : ℕ) → services ≡ c 0 → Looked 0 services (record { services = services; place = 0 }) (record { services = services; place = 0 })
   unfolding kept_to
-  looked_first services e = record { some = omega arith; here = e; fewest = rw e refl; largest = rw e refl }
+  looked_first services e = record { here = e; fewest = rw e refl; largest = rw e refl }
 
-  -- the services at the place before p, with the slot that enters, are those at p with the slot that leaves
-  pub looked_slides : (p : ℕ) → 1 ≤ p → c p + at recorded flow (p - 1) ≡ c (p - 1) + at recorded flow (p + l - 1)
-  looked_slides zero pos = absurd (omega arith)
-  looked_slides (suc q) pos =
-      let place : suc q + l - 1 ≡ q + l = omega arith in
-      let before : suc q - 1 ≡ q = omega arith in
-      rw (place, before) (cover_slides recorded flow l q)
+  -- the slots behind the first l
+  abbrev pub behind : List ℕ
+  behind = take (length recorded - l) (drop l recorded)
+
+  pub behind_length : length behind ≡ length recorded - l
+  behind_length = length-take-le (length recorded - l) (drop l recorded) (omega (arith, length-drop l recorded))
+
+  -- the services at a place p, with the slot that enters, are those at the next one with the slot that leaves
+  pub looked_slides : (p : ℕ) → p < length recorded - l → c (suc p) + at recorded flow p ≡ c p + at behind flow p
+  looked_slides p h =
+      let next : get_or behind p 0 ≡ get_or recorded (l + p) 0 = get_or-take (length recorded - l) (drop l recorded) p 0 h ∙ get_or-drop l recorded p 0 in
+      omega (arith, cover_slides recorded flow l p, ap (service_in flow) next, ap (at recorded flow) (add_comm p l))
 
   pub looked_next : (p : ℕ) {services here : ℕ} {least most fewest largest : Stretch} → Looked p services least most
-      → here ≡ c p → fewest ≡ or_less least here p → largest ≡ or_more most here p → Looked (p + 1) here fewest largest
+      → here ≡ c (suc p) → fewest ≡ or_better fewer least here (p + 1) → largest ≡ or_better more most here (p + 1) → Looked (p + 1) here fewest largest
   unfolding kept_to
-  looked_next zero k e f g = absurd (omega (arith, k.some))
-  looked_next (suc q) k e f g =
-      let before : suc q - 1 ≡ q = omega arith in
-      let now : suc q + 1 - 1 ≡ suc q = omega arith in
-      record {
-        some = omega arith;
-        here = e ∙ ap c (sym now);
-        fewest = rw (f, e, now, k.fewest, before) refl;
-        largest = rw (g, e, now, k.largest, before) refl;
-      }
+  looked_next p k e f g = rw (add-one p) (record { here = e; fewest = rw (f, e, k.fewest, add-one p) refl; largest = rw (g, e, k.largest, add-one p) refl })
 
-  pub looked_all : {p services : ℕ} {least most : Stretch} → Looked p services least most → l ≤ length recorded → p ≡ length recorded + 1 - l
-      → Measures recorded flow l (record { verdict = Ok tt; least = least; most = most })
-  looked_all {p} k h e =
-      let last : p - 1 ≡ length recorded - l = omega arith in
-      rw (k.fewest, k.largest, last) (kept_measures recorded flow l h)
+  pub looked_all : {p services : ℕ} {least most : Stretch} → Looked p services least most → l ≤ length recorded → p ≡ length recorded - l
+      → Measures recorded flow l (record { least = least; most = most })
+  unfolding measured_of
+  looked_all k h e = rw (k.fewest, k.largest, e) (kept_measures recorded flow l h)

@@ -1,32 +1,25 @@
 -- Looking at one place after another finds the first best: one argument for the fewest and for the most services.
 use Prim.Native.Nat.{ℕ, zero, suc, ◌<◌, ◌≤◌}
+use mathlib.Core.Bool.{Bool, true, false}
 use mathlib.Core.Path.{◌≡◌, refl, ap, sym, subst, ◌∙◌}
 use mathlib.Core.Logic.{◌⊎◌, inl, inr, ⊎_elim}
 use native.Mathlib.Omega.{arith}
-use borrow.Author.Tests.{lt-ltb, le-ltb}
+use borrow.Author.Tests.{ltb-true, ltb-false}
 use Rattle.plan.proofs.BelowLaws.{lt_or_le}
 use Rattle.meter.specs.Cover.{FirstBest}
-use Rattle.meter.specs.Search.{or_less, or_more, kept_to}
+use Rattle.meter.specs.Search.{fewer, more, or_better, kept_to}
 use Rattle.meter.specs.declared.Stretch.{Stretch}
 
 abbrev stretch : ℕ → ℕ → Stretch
 stretch services place = record { services = services; place = place }
 
-pub less_taken : (s : Stretch) (services place : ℕ) → services < s.services → or_less s services place ≡ stretch services place
-unfolding or_less
-less_taken s services place l = rw (lt-ltb services s.services l) refl
+pub better_taken : (better : ℕ → ℕ → Bool) (s : Stretch) (services place : ℕ) → better services s.services ≡ true → or_better better s services place ≡ stretch services place
+unfolding or_better
+better_taken better s services place e = rw e refl
 
-pub less_kept : (s : Stretch) (services place : ℕ) → s.services ≤ services → or_less s services place ≡ s
-unfolding or_less
-less_kept s services place l = rw (le-ltb services s.services l) refl
-
-pub more_taken : (s : Stretch) (services place : ℕ) → s.services < services → or_more s services place ≡ stretch services place
-unfolding or_more
-more_taken s services place l = rw (lt-ltb s.services services l) refl
-
-pub more_kept : (s : Stretch) (services place : ℕ) → services ≤ s.services → or_more s services place ≡ s
-unfolding or_more
-more_kept s services place l = rw (le-ltb s.services services l) refl
+pub better_kept : (better : ℕ → ℕ → Bool) (s : Stretch) (services place : ℕ) → better services s.services ≡ false → or_better better s services place ≡ s
+unfolding or_better
+better_kept better s services place e = rw e refl
 
 -- the order of "no better than"
 pub record Order (R : ℕ → ℕ → Type 0) : Type 0 where
@@ -35,10 +28,10 @@ pub record Order (R : ℕ → ℕ → Type 0) : Type 0 where
   both : (x y : ℕ) → R x y → R y x → x ≡ y
 
 -- a stretch is kept where the new one is no better, and given up for one that is better
-abbrev pub Keeps : (ℕ → ℕ → Type 0) → (Stretch → ℕ → ℕ → Stretch) → Type 0
-Keeps R or = (s : Stretch) (services place : ℕ)
-    → (R services s.services × (or s services place ≡ s))
-    ⊎ (R s.services services × (services ≡ s.services → ⊥) × (or s services place ≡ stretch services place))
+abbrev pub Keeps : (ℕ → ℕ → Type 0) → (ℕ → ℕ → Bool) → Type 0
+Keeps R better = (s : Stretch) (services place : ℕ)
+    → (R services s.services × (or_better better s services place ≡ s))
+    ⊎ (R s.services services × (services ≡ s.services → ⊥) × (or_better better s services place ≡ stretch services place))
 
 pub at_least : Order (λ x best. best ≤ x)
 at_least = record { itself = λ x. omega arith; through = λ x y z p q. omega arith; both = λ x y p q. omega arith }
@@ -46,26 +39,31 @@ at_least = record { itself = λ x. omega arith; through = λ x y z p q. omega ar
 pub at_most : Order (λ x best. x ≤ best)
 at_most = record { itself = λ x. omega arith; through = λ x y z p q. omega arith; both = λ x y p q. omega arith }
 
-pub less_keeps : Keeps (λ x best. best ≤ x) or_less
-less_keeps s services place =
-    ⊎_elim
-    (λ (l : services < s.services). inr (omega arith, (λ e. omega arith), less_taken s services place l))
-    (λ (l : s.services ≤ services). inl (l, less_kept s services place l))
-    (lt_or_le services s.services)
+keeps_by : (R : ℕ → ℕ → Type 0) (better : ℕ → ℕ → Bool)
+    → ((x y : ℕ) → better x y ≡ true → R y x × (x ≡ y → ⊥)) → ((x y : ℕ) → better x y ≡ false → R x y) → Keeps R better
+keeps_by R better taken kept s services place = go (better services s.services) refl
+  where
+    go : (b : Bool) → better services s.services ≡ b
+        → (R services s.services × (or_better better s services place ≡ s))
+        ⊎ (R s.services services × (services ≡ s.services → ⊥) × (or_better better s services place ≡ stretch services place))
+    go true e = let known = taken services s.services e in inr (known.0, known.1, better_taken better s services place e)
+    go false e = inl (kept services s.services e, better_kept better s services place e)
 
-pub more_keeps : Keeps (λ x best. x ≤ best) or_more
-more_keeps s services place =
-    ⊎_elim
-    (λ (l : s.services < services). inr (omega arith, (λ e. omega arith), more_taken s services place l))
-    (λ (l : services ≤ s.services). inl (l, more_kept s services place l))
-    (lt_or_le s.services services)
+pub less_keeps : Keeps (λ x best. best ≤ x) fewer
+less_keeps = keeps_by _ fewer (λ x y e. let l = ltb-true x y e in (omega (arith, l), (λ s. omega (arith, l, s)))) (λ x y e. ltb-false x y e)
+
+pub more_keeps : Keeps (λ x best. x ≤ best) more
+more_keeps = keeps_by _ more (λ x y e. let l = ltb-true y x e in (omega (arith, l), (λ s. omega (arith, l, s)))) (λ x y e. ltb-false y x e)
 
 module _ {R : ℕ → ℕ → Type 0} (order : Order R) where
   -- the places 0, .., p
   abbrev Upto : ℕ → ℕ → Type 0
   Upto p t = t ≤ p
 
-  module _ (or : Stretch → ℕ → ℕ → Stretch) (keeps : Keeps R or) (c : ℕ → ℕ) where
+  module _ (better : ℕ → ℕ → Bool) (keeps : Keeps R better) (c : ℕ → ℕ) where
+    abbrev or : Stretch → ℕ → ℕ → Stretch
+    or = or_better better
+
     first_next : (s : Stretch) (p : ℕ) → FirstBest R (Upto p) c s → FirstBest R (Upto (suc p)) c (or s (c (suc p)) (suc p))
     first_next s p b = ⊎_elim kept taken (keeps s (c (suc p)) (suc p))
       where
@@ -96,7 +94,7 @@ module _ {R : ℕ → ℕ → Type 0} (order : Order R) where
                   (λ _. omega arith);
             }
 
-    pub kept_first : (p : ℕ) → FirstBest R (Upto p) c (kept_to or c p)
+    pub kept_first : (p : ℕ) → FirstBest R (Upto p) c (kept_to better c p)
     unfolding kept_to
     kept_first zero =
         record {
@@ -105,7 +103,7 @@ module _ {R : ℕ → ℕ → Type 0} (order : Order R) where
           none_better = λ t l. let e : 0 ≡ t = omega arith in subst (λ (u : ℕ). R (c u) (c 0)) e (order.itself (c 0));
           none_earlier = λ t l e. omega arith;
         }
-    kept_first (suc p) = first_next (kept_to or c p) p (kept_first p)
+    kept_first (suc p) = first_next (kept_to better c p) p (kept_first p)
 
   -- there is one first best
   pub first_only : (In : ℕ → Type 0) (c : ℕ → ℕ) (s s' : Stretch) → FirstBest R In c s → FirstBest R In c s' → s ≡ s'

@@ -1,6 +1,6 @@
 -- A record made under one plan from a frame start is smooth: from the window rule alone.
 use Prim.Native.Nat.{ℕ, ◌+◌, ◌<◌, ◌≤◌}
-use mathlib.Core.Path.{◌≡◌, subst}
+use mathlib.Core.Path.{subst}
 use mathlib.Core.List.{List}
 use native.Mathlib.Omega.{arith}
 use lib.ListN.{length, get_or}
@@ -41,9 +41,9 @@ module _ (rs : List ℕ) (T : ℕ) (fits : Fits rs T) (rule : (ks : List ℕ) �
         at_most = near_most T a (C t) t l (cover_at recorded f l t) fits.some_slot begin end some;
       }
 
-  measured : (l : ℕ) (r : Measured) → 1 ≤ l → Covers recorded f l r → r.verdict ≡ Ok tt → WithinBounds l a T r.least.services r.most.services
-  measured l r some covers e =
-      let m = covers_measures recorded f l r covers e in
+  measured : (l : ℕ) (r : Measured) → 1 ≤ l → Covers recorded f l (Ok r) → WithinBounds l a T r.least.services r.most.services
+  measured l r some covers =
+      let m = covers_measures recorded f l r covers in
       record {
         at_least = rw m.least.there (everywhere l r.least.place some m.least.inside).at_least;
         at_most = rw m.most.there (everywhere l r.most.place some m.most.inside).at_most;

@@ -1,7 +1,8 @@
 -- "For a flow number and a length l they want the least and the most services in any l consecutive slots of the record,
 -- with the first place where each occurs." What `cover` answers.
-use Rattle.std.specs.Prelude.{ℕ, ◌≤◌, ◌≡◌, Bool, ◌||◌, List, ltb, length, Ok, Err}
+use Rattle.std.specs.Prelude.{ℕ, ◌≤◌, ◌≡◌, Bool, ◌||◌, List, ltb, length, Result, Ok, Err, IsOkAnd}
 use Rattle.refusal.specs.Chain.{refuse_if}
+use Rattle.refusal.specs.declared.Refusal.{Refusal}
 use Rattle.refusal.specs.declared.Refusal.TheVariants.{RecordLength}
 use Rattle.refusal.specs.Verdict.{Verdict}
 use Rattle.meter.specs.Cover.{most_record, MinimumCover, MaximumCover}
@@ -17,31 +18,26 @@ cover_verdict slots l = refuse_if (wrong_length slots l) RecordLength (Ok tt)
 
 -- an accepted answer
 pub record Measures (recorded : List ℕ) (flow l : ℕ) (r : Measured) : Type 0 where
-  pub accepted : r.verdict ≡ Ok tt
   pub least : MinimumCover recorded flow l r.least
   pub most : MaximumCover recorded flow l r.most
+
+-- what is answered under a verdict: a measurement where it accepts, and otherwise its refusal
+abbrev pub CoversUnder : Verdict → List ℕ → ℕ → ℕ → Result Measured Refusal → Type 0
+CoversUnder (Ok _) recorded flow l r = IsOkAnd r (Measures recorded flow l)
+CoversUnder (Err why) recorded flow l r = r ≡ Err why
+
+abbrev pub Covers : List ℕ → ℕ → ℕ → Result Measured Refusal → Type 0
+Covers recorded flow l r = CoversUnder (cover_verdict (length recorded) l) recorded flow l r
 
 abbrev none : Stretch
 none = record { services = 0; place = 0 }
 
--- "the other numbers of a refused answer are 0"
-abbrev pub refused_cover : Verdict → Measured
-refused_cover v = record { verdict = v; least = none; most = none }
-
--- what is answered under a verdict
-abbrev pub CoversUnder : Verdict → List ℕ → ℕ → ℕ → Measured → Type 0
-CoversUnder (Ok _) recorded flow l r = Measures recorded flow l r
-CoversUnder (Err why) recorded flow l r = r ≡ refused_cover (Err why)
-
-abbrev pub Covers : List ℕ → ℕ → ℕ → Measured → Type 0
-Covers recorded flow l r = CoversUnder (cover_verdict (length recorded) l) recorded flow l r
-
 -- "For l = 0 both are 0 at place 0", also for an empty record
 abbrev pub NoSlots : List ℕ → ℕ → Type 0
-NoSlots recorded flow = length recorded ≤ most_record → Covers recorded flow 0 (record { verdict = Ok tt; least = none; most = none })
+NoSlots recorded flow = length recorded ≤ most_record → Covers recorded flow 0 (Ok (record { least = none; most = none }))
 
 -- there is one answer that satisfies a description
-pub record OneAnswer (Is : Measured → Type 0) : Type 0 where
-  pub answer : Measured
+pub record OneAnswer (Is : Result Measured Refusal → Type 0) : Type 0 where
+  pub answer : Result Measured Refusal
   pub is : Is answer
-  pub only : (r : Measured) → Is r → r ≡ answer
+  pub only : (r : Result Measured Refusal) → Is r → r ≡ answer

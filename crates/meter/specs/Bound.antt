@@ -26,8 +26,7 @@ pub record Smooth (recorded : List ℕ) (flow a T : ℕ) : Type 0 where
   -- at each place of a record of any length
   pub everywhere : (l t : ℕ) → 1 ≤ l → Inside recorded l t → WithinBounds l a T (cover_at recorded flow l t) (cover_at recorded flow l t)
   -- of what `cover` answers
-  pub measured : (l : ℕ) (r : Measured) → 1 ≤ l → Covers recorded flow l r → r.verdict ≡ Ok tt
-      → WithinBounds l a T r.least.services r.most.services
+  pub measured : (l : ℕ) (r : Measured) → 1 ≤ l → Covers recorded flow l (Ok r) → WithinBounds l a T r.least.services r.most.services
 
 -- The theorem: the window rule for each frame that begins with counts 0 is enough.
 abbrev pub SmoothByWindows : List ℕ → ℕ → Type 0

@@ -1,27 +1,35 @@
 -- The answer as it is found by looking at one place after another: for the code, and for definitions that need the answer
 -- itself. That it is what specs/Answer.antt asks for, and nothing else is, stands in proofs/AnswerLaws.antt.
-use Rattle.std.specs.Prelude.{ℕ, zero, suc, ◌-◌, cond, List, ltb, length}
-use Rattle.refusal.specs.Chain.{if_accepted}
+use Rattle.std.specs.Prelude.{ℕ, zero, suc, ◌-◌, Bool, cond, List, ltb, length, Result}
+use Rattle.refusal.specs.Chain.{when_accepted}
+use Rattle.refusal.specs.declared.Refusal.{Refusal}
 use Rattle.meter.specs.Cover.{cover_at}
-use Rattle.meter.specs.Answer.{cover_verdict, refused_cover}
+use Rattle.meter.specs.Answer.{cover_verdict}
 use Rattle.meter.specs.declared.Measured.{Measured}
 use Rattle.meter.specs.declared.Stretch.{Stretch}
 
--- a stretch, or the one at a later place if that has fewer (more) services
-unfoldable pub or_less : Stretch → ℕ → ℕ → Stretch
-or_less s services place = cond (ltb services s.services) (record { services = services; place = place }) s
+-- whether a services are better than b: where fewer are looked for, and where more are
+abbrev pub fewer : ℕ → ℕ → Bool
+fewer a b = ltb a b
 
-unfoldable pub or_more : Stretch → ℕ → ℕ → Stretch
-or_more s services place = cond (ltb s.services services) (record { services = services; place = place }) s
+abbrev pub more : ℕ → ℕ → Bool
+more a b = ltb b a
+
+-- a stretch, or the one at a later place if that is better
+unfoldable pub or_better : (ℕ → ℕ → Bool) → Stretch → ℕ → ℕ → Stretch
+or_better better s services place = cond (better services s.services) (record { services = services; place = place }) s
 
 -- what is kept of the places 0, .., p with the services c
-unfoldable pub kept_to : (Stretch → ℕ → ℕ → Stretch) → (ℕ → ℕ) → ℕ → Stretch
-kept_to or c zero = record { services = c 0; place = 0 }
-kept_to or c (suc p) = or (kept_to or c p) (c (suc p)) (suc p)
+unfoldable pub kept_to : (ℕ → ℕ → Bool) → (ℕ → ℕ) → ℕ → Stretch
+kept_to better c zero = record { services = c 0; place = 0 }
+kept_to better c (suc p) = or_better better (kept_to better c p) (c (suc p)) (suc p)
 
-unfoldable pub cover_of : List ℕ → ℕ → ℕ → Measured
-cover_of recorded flow l =
-    let verdict = cover_verdict (length recorded) l in
+-- what is kept of all places inside the record
+unfoldable pub measured_of : List ℕ → ℕ → ℕ → Measured
+measured_of recorded flow l =
     let c = cover_at recorded flow l in
     let last = length recorded - l in
-    if_accepted verdict (record { verdict = verdict; least = kept_to or_less c last; most = kept_to or_more c last }) (refused_cover verdict)
+    record { least = kept_to fewer c last; most = kept_to more c last }
+
+unfoldable pub cover_of : List ℕ → ℕ → ℕ → Result Measured Refusal
+cover_of recorded flow l = when_accepted (cover_verdict (length recorded) l) (measured_of recorded flow l)

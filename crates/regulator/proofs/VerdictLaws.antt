@@ -34,7 +34,7 @@ sums_verdict n t given rates rows columns e s =
       all_ext (λ k. leb (get_or columns k 0) t) (λ k. leb (column_sum given n k) t) n (λ k b. ap (λ (x : ℕ). leb x t) (s.column k b)),
     )
 
--- who gets Accepted: an accepted plan, with an output list of its length; and nobody else
+-- who is accepted: an accepted plan, with an output list of its length; and nobody else
 pub boost_taken : (n t : ℕ) (given rates : List ℕ) → boost_verdict n t given rates ≡ Ok tt → (accept_of n t given ≡ Ok tt) × (length rates ≡ n * n)
 unfolding boost_verdict
 boost_taken n t given rates e =

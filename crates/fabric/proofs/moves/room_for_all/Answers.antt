@@ -1,14 +1,11 @@
-use Rattle.std.proofs.Common.{◌≡◌, ℕ, ◌+◌, ◌<◌, ◌≤◌, List, Option, None, length, get_or, take, ◌∙◌, sym, arith}
-use Rattle.std.proofs.lemmas.List.{length-take-le, get_or-take}
+use Rattle.std.proofs.Common.{◌∙◌, sym, arith}
+use Rattle.std.proofs.lemmas.List.{length-take-le}
 use Rattle.plan.proofs.TestLaws.{failed, passed}
 use Rattle.side.proofs.NameLaws.{widened}
+use Rattle.fabric.proofs.LoopLaws.{among}
 use Rattle.fabric.proofs.MoveLaws.{room_start, room_all, room_idle_step, room_flow_step, room_fails}
 use Rattle.fabric.proofs.moves.room_for_all.Goals as goal
 use Rattle.fabric.proofs.moves.room_for_all.Goals.{in-Some+else-not-has_room, in_default}
-
--- one of the first n choices
-among : (n i : ℕ) (cs : List (Option ℕ)) → n ≤ length cs → i < length (take n cs) → (i < n) × (get_or cs i None ≡ get_or (take n cs) i None)
-among n i cs few l = let below : i < n = omega (arith, length-take-le n cs few) in (below, sym (get_or-take n cs i None below))
 
 pub loop-i-init : goal.loop-i-init
 loop-i-init c = room_start _ _ _ _
