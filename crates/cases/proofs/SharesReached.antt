@@ -1,6 +1,6 @@
 -- The shares of demand 3 are reached: each by a run in the sense of the promise, in a stretch that is computed.
 use Prim.Native.Nat.{ℕ}
-use mathlib.Core.Path.{◌≡◌, refl, sym}
+use mathlib.Core.Path.{◌≡◌, refl}
 use mathlib.Core.List.{List, ◌++◌}
 use lib.ListN.{length, take, drop, take-append-drop}
 use Rattle.std.specs.Prelude.{Ok}

@@ -1,5 +1,5 @@
 -- What a case looks at: one port's choices, or a run of the switch, slot by slot.
-use Rattle.std.specs.Prelude.{ℕ, suc, ◌*◌, Bool, cond, List, [], ◌∷◌, map, eqb, get_or, replicate}
+use Rattle.std.specs.Prelude.{ℕ, suc, ◌*◌, Bool, cond, List, [], ◌∷◌, map, eqb, get_or, replicate, Option, Some, None}
 use Rattle.refusal.specs.Chain.{if_accepted}
 use Rattle.refusal.specs.Verdict.{Verdict}
 use Rattle.plan.specs.Range.{most_ports}
@@ -7,8 +7,6 @@ use Rattle.plan.specs.Lines.{flow_of}
 use Rattle.planpair.specs.Rates.{rate_at}
 use Rattle.multiplexer.specs.Count.{services_of}
 use Rattle.multiplexer.specs.Frame.{frame_of}
-use Rattle.multiplexer.specs.declared.Choice.{Choice}
-use Rattle.multiplexer.specs.declared.Choice.TheVariants.{Idle, Flow}
 use Rattle.fabric.specs.Answer.{answer_of, empty_with}
 use Rattle.fabric.specs.declared.flow.Answer.{Answer}
 use Rattle.fabric.specs.declared.flow.Answer.TheVariants as answer
@@ -21,7 +19,7 @@ use Rattle.runs.specs.Event.Event.{stepped, arrived, loaded}
 use Rattle.runs.specs.Run.{defined_run}
 
 -- the choices of one port with these rates, slot by slot, in a frame of t slots that begins with counts 0
-abbrev pub flows_by_slot : ℕ → List ℕ → List Choice
+abbrev pub flows_by_slot : ℕ → List ℕ → List (Option ℕ)
 flows_by_slot t rates = frame_of rates (replicate most_ports 0) t
 
 -- The cases leave Q and the store free: queues of 4 cells, and a store of 0.
@@ -57,10 +55,10 @@ abbrev pub rate_by_slot : ℕ → ℕ → List Event → List ℕ
 rate_by_slot i j es = map (λ (r : SlotReply). rate_at r.state.running i j) (slots_of es)
 
 -- whom a port served, as a choice
-abbrev pub served_by : Answer → Choice
-served_by answer.Idle = Idle
-served_by (answer.Empty other) = Flow other
-served_by (answer.Moved other cell) = Flow other
+abbrev pub served_by : Answer → Option ℕ
+served_by answer.Idle = None
+served_by (answer.Empty other) = Some other
+served_by (answer.Moved other cell) = Some other
 
 abbrev pub input_answer : ℕ → SlotReply → Answer
 input_answer i r = answer_of r.moves i
@@ -69,10 +67,10 @@ abbrev pub output_answer : ℕ → SlotReply → Answer
 output_answer j r = answer_of r.sends j
 
 -- whom input i served, and whom output j, slot by slot
-abbrev pub input_by_slot : ℕ → List Event → List Choice
+abbrev pub input_by_slot : ℕ → List Event → List (Option ℕ)
 input_by_slot i es = map (λ r. served_by (input_answer i r)) (slots_of es)
 
-abbrev pub output_by_slot : ℕ → List Event → List Choice
+abbrev pub output_by_slot : ℕ → List Event → List (Option ℕ)
 output_by_slot j es = map (λ r. served_by (output_answer j r)) (slots_of es)
 
 -- the slots in which a test comes out true, the first one being t

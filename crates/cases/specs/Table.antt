@@ -1,14 +1,13 @@
 -- "Cases with a star make up one table, proved of the specification by a single theorem". Each line has what the
 -- definitions compute, and what the scope or a request (L3 to L5) says; its text of the case stands over it. Two runs more show
 -- that the shares of demand 3 are reached.
-use Rattle.std.specs.Prelude.{ℕ, ◌≡◌, List, [], ◌∷◌, ◌++◌, length, take, drop, replicate, Ok}
+use Rattle.std.specs.Prelude.{ℕ, ◌≡◌, List, [], ◌∷◌, ◌++◌, length, take, drop, replicate, Some, None, Ok}
 use Rattle.refusal.specs.Number.{verdict_number_of}
 use Rattle.plan.specs.Below.{list_below}
 use Rattle.plan.specs.Accept.{accept_of}
 use Rattle.regulator.specs.Outcome.{Outcome, outcome}
 use Rattle.regulator.specs.Scale.{scale_of}
 use Rattle.regulator.specs.Boost.{diagonal_in, boost_of}
-use Rattle.multiplexer.specs.declared.Choice.TheVariants.{Idle, Flow}
 use Rattle.runs.specs.Event.{Call, Event}
 use Rattle.runs.specs.Event.Lent.{own}
 use Rattle.runs.specs.Event.Call.{step, arrive, load}
@@ -40,15 +39,15 @@ row3 a b c = a ∷ b ∷ c ∷ []
 abbrev row7 : ℕ → ℕ → ℕ → ℕ → ℕ → ℕ → ℕ → List ℕ
 row7 a b c d e f g = a ∷ b ∷ c ∷ d ∷ e ∷ f ∷ g ∷ []
 
--- Below, `Flow f` is the scope's f in a list of choices, and `Idle` its "-".
+-- Below, `Some f` is the scope's f in a list of choices, and `None` its "-".
 
 -- C1* T = 8, rates 5 2: flows by slot 0 1 0 - 0 0 1 0.
 abbrev pub c1 : List Line
-c1 = (flows_by_slot 8 (5 ∷ 2 ∷ []) is (Flow 0 ∷ Flow 1 ∷ Flow 0 ∷ Idle ∷ Flow 0 ∷ Flow 0 ∷ Flow 1 ∷ Flow 0 ∷ [])) ∷ []
+c1 = (flows_by_slot 8 (5 ∷ 2 ∷ []) is (Some 0 ∷ Some 1 ∷ Some 0 ∷ None ∷ Some 0 ∷ Some 0 ∷ Some 1 ∷ Some 0 ∷ [])) ∷ []
 
 -- C2* T = 6, rates 2 3 1: 1 0 1 0 1 2.
 abbrev pub c2 : List Line
-c2 = (flows_by_slot 6 (2 ∷ 3 ∷ 1 ∷ []) is (Flow 1 ∷ Flow 0 ∷ Flow 1 ∷ Flow 0 ∷ Flow 1 ∷ Flow 2 ∷ [])) ∷ []
+c2 = (flows_by_slot 6 (2 ∷ 3 ∷ 1 ∷ []) is (Some 1 ∷ Some 0 ∷ Some 1 ∷ Some 0 ∷ Some 1 ∷ Some 2 ∷ [])) ∷ []
 
 -- four cells for flow (i, j)
 abbrev pub four_cells : ℕ → ℕ → List Call
@@ -75,7 +74,7 @@ c3 =
 -- L4, the rule by itself: T = 4, rates 1 1 2: 2 0 2 1. In slot 1 flows 0 and 1 have the same deadline and rate, and 0 is
 -- the lower number; in slot 2 flows 1 and 2 have the same deadline, and 2 has the larger rate.
 abbrev pub l4_ties : List Line
-l4_ties = (flows_by_slot 4 (row3 1 1 2) is (Flow 2 ∷ Flow 0 ∷ Flow 2 ∷ Flow 1 ∷ [])) ∷ []
+l4_ties = (flows_by_slot 4 (row3 1 1 2) is (Some 2 ∷ Some 0 ∷ Some 2 ∷ Some 1 ∷ [])) ∷ []
 
 -- L4, two cells are needed: N = 2, T = 9, rows 3 4, 5 2, flow (0, 0) always waiting. Input 0 serves it in slots 1, 4, 6,
 -- output 0 in 1, 3, 7. Slot 3 is empty; after slot 6 the crosspoint holds 2.
@@ -256,8 +255,8 @@ c6_run = run_of 1 1 (1 ∷ []) (replicate 3 (step own))
 -- three slots, each a frame; the state is then the one that they began with, so it goes on like that
 abbrev pub c6 : List Line
 c6 =
-    (input_by_slot 0 c6_run is (Flow 0 ∷ Flow 0 ∷ Flow 0 ∷ []))
-    ∷ (output_by_slot 0 c6_run is (Flow 0 ∷ Flow 0 ∷ Flow 0 ∷ []))
+    (input_by_slot 0 c6_run is (Some 0 ∷ Some 0 ∷ Some 0 ∷ []))
+    ∷ (output_by_slot 0 c6_run is (Some 0 ∷ Some 0 ∷ Some 0 ∷ []))
     ∷ (final_state (started 1 1 (1 ∷ [])).state c6_run is (started 1 1 (1 ∷ [])).state)
     ∷ []
 
@@ -268,10 +267,10 @@ c7_run = run_of 2 4 (row2 0 0 ++ row2 0 0) (replicate 4 (step own))
 abbrev pub c7 : List Line
 c7 =
     (accept_of 2 4 (row2 0 0 ++ row2 0 0) is Ok tt)
-    ∷ (input_by_slot 0 c7_run is (Idle ∷ Idle ∷ Idle ∷ Idle ∷ []))
-    ∷ (input_by_slot 1 c7_run is (Idle ∷ Idle ∷ Idle ∷ Idle ∷ []))
-    ∷ (output_by_slot 0 c7_run is (Idle ∷ Idle ∷ Idle ∷ Idle ∷ []))
-    ∷ (output_by_slot 1 c7_run is (Idle ∷ Idle ∷ Idle ∷ Idle ∷ []))
+    ∷ (input_by_slot 0 c7_run is (None ∷ None ∷ None ∷ None ∷ []))
+    ∷ (input_by_slot 1 c7_run is (None ∷ None ∷ None ∷ None ∷ []))
+    ∷ (output_by_slot 0 c7_run is (None ∷ None ∷ None ∷ None ∷ []))
+    ∷ (output_by_slot 1 c7_run is (None ∷ None ∷ None ∷ None ∷ []))
     ∷ []
 
 -- C8* T = 3: row 1 2 within, row 2 2 refused 4.

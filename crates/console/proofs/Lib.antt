@@ -1,4 +1,5 @@
 pub mod DigitLaws
+pub mod CeilLaws
 pub mod InputLaws
 pub mod TextLaws
 pub mod TextBelowLaws

@@ -1,4 +1,4 @@
--- A text for each number below n, one after the other: written piece by piece, and how long it can be.
+-- A text for each number below n, one after the other: put piece by piece behind another text, and how long it can be.
 use Prim.Native.Nat.{ℕ, zero, suc, ◌+◌, ◌*◌, ◌<◌, ◌≤◌}
 use mathlib.Core.List.{List, [], ◌++◌, append_assoc, append-nil}
 use mathlib.Core.Path.{◌≡◌, refl, ap, sym, ◌∙◌}
@@ -8,20 +8,9 @@ use native.Mathlib.Numerals.{add-one}
 use native.Mathlib.Omega.{arith}
 use lib.ListN.{length, length-append}
 use Rattle.plan.proofs.BelowLaws.{below_or_last}
-use Rattle.console.specs.Text.{HasRoom, Written}
 use Rattle.console.specs.TextBelow.{text_below}
-use Rattle.console.proofs.TextLaws.{nothing_written, written_as, written_on}
 
 module _ (text : ℕ → List ℕ) where
-  -- before the first one nothing is written
-  pub below_none : (buffer : List ℕ) (at : ℕ) → Written buffer at (text_below text 0) buffer at
-  unfolding text_below
-  below_none buffer at = nothing_written buffer at
-
-  pub below_next : (p : ℕ) → text_below text p ++ text p ≡ text_below text (p + 1)
-  unfolding text_below
-  below_next p = rw (add-one p) refl
-
   pub below_nothing : text_below text 0 ≡ []
   unfolding text_below
   below_nothing = refl
@@ -49,16 +38,31 @@ module _ (text : ℕ → List ℕ) where
       (λ (e : p ≡ n). rw e (omega (arith, below_longer n)))
       (below_or_last p n l)
 
-  -- so where there is room for all of them, there is room for the next one
-  pub below_room : {before after : List ℕ} {start at p n : ℕ} → p < n → HasRoom before start (text_below text n) → length after ≡ length before
-      → Written before start (text_below text p) after at → HasRoom after at (text p)
-  below_room {p = p} {n = n} l room same w = omega (arith, w.place, below_within p n l)
-
   -- texts of at most k bytes
   pub below_short : (k n : ℕ) → ((p : ℕ) → p < n → length (text p) ≤ k) → length (text_below text n) ≤ n * k
   unfolding text_below
   below_short k zero h = omega arith
   below_short k (suc n) h = omega (arith, below_longer n, below_short k n (λ p l. h p (omega arith)), h n (omega arith))
+
+  -- put behind the text `before`: none, then one more, which may be empty, and so all; where there is room for all, there is for
+  -- the next
+  module _ (before : List ℕ) where
+    pub below_start : before ≡ before ++ text_below text 0
+    unfolding text_below
+    below_start = sym (append-nil before)
+
+    module _ {now : List ℕ} {p : ℕ} (so_far : now ≡ before ++ text_below text p) where
+      pub below_step : {line after : List ℕ} → text p ≡ line → after ≡ now ++ line → after ≡ before ++ text_below text (p + 1)
+      below_step e put = rw (put, so_far, ← e, add-one p, below_last p) (append_assoc before (text_below text p) (text p))
+
+      pub below_skip : text p ≡ [] → now ≡ before ++ text_below text (p + 1)
+      below_skip e = below_step e (sym (append-nil now))
+
+      pub below_end : {n : ℕ} → p ≡ n → now ≡ before ++ text_below text n
+      below_end e = rw (← e) so_far
+
+      pub below_room : {n : ℕ} → p < n → length now + length (text p) ≤ length before + length (text_below text n)
+      below_room {n} l = omega (arith, ap length so_far, length-append before (text_below text p), below_within p n l)
 
 -- the first one, and the others
 pub below_first : (text : ℕ → List ℕ) (n : ℕ) → text_below text (suc n) ≡ text 0 ++ text_below (λ k. text (suc k)) n
@@ -72,11 +76,5 @@ unfolding text_below
 below_same text text' zero h = refl
 below_same text text' (suc n) h = rw (below_same text text' n (λ p l. h p (omega arith)), h n (omega arith)) refl
 
--- one text more behind those below p: none, where it is empty, and else a line that was written
-module _ (text : ℕ → List ℕ) {before mid : List ℕ} {start at p : ℕ} (w : Written before start (text_below text p) mid at) where
-  pub below_skip : text p ≡ [] → Written before start (text_below text (p + 1)) mid at
-  below_skip e =
-      written_as w (sym (append-nil (text_below text p)) ∙ ap (λ (l : List ℕ). text_below text p ++ l) (sym e) ∙ below_next text p)
-
-  pub below_step : {after line : List ℕ} {r : ℕ} → text p ≡ line → Written mid at line after r → Written before start (text_below text (p + 1)) after r
-  below_step e v = written_as (written_on w (written_as v (sym e))) (below_next text p)
+-- for the functions that put them so
+pub ruleset put_below = (below_start, below_step, below_skip, below_end)

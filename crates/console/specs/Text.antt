@@ -1,5 +1,5 @@
--- Numbers as text, and text that is written into a lent buffer.
-use Rattle.std.specs.Prelude.{ℕ, zero, suc, ◌+◌, ◌/◌, ◌%◌, ◌≤◌, cond, List, [], ◌∷◌, ◌++◌, ◌≡◌, ltb, length, take, drop}
+-- Numbers as text.
+use Rattle.std.specs.Prelude.{ℕ, zero, suc, ◌+◌, ◌/◌, ◌%◌, cond, List, [], ◌∷◌, ◌++◌, ltb}
 
 -- the ASCII code of a digit
 abbrev digit : ℕ → ℕ
@@ -14,13 +14,6 @@ digits_of (suc most) n = cond (ltb n 10) (digit n ∷ []) (digits_of most (n / 1
 abbrev pub decimal_of : ℕ → List ℕ
 decimal_of n = digits_of 20 n
 
--- For the code: a buffer has room for a text behind its first `at` bytes.
-pub record HasRoom (buffer : List ℕ) (at : ℕ) (text : List ℕ) : Type 0 where
-  pub enough : at + length text ≤ length buffer
-
--- For the code: `text` was written into a buffer behind its first `at` bytes, r is the place behind it, and from there on
--- the buffer is as it was.
-pub record Written (before : List ℕ) (at : ℕ) (text after : List ℕ) (r : ℕ) : Type 0 where
-  pub place : r ≡ at + length text
-  pub bytes : take r after ≡ take at before ++ text
-  pub kept : drop r after ≡ drop r before
+-- a number with the space that parts it from the field before
+abbrev pub field_of : ℕ → List ℕ
+field_of value = 32 ∷ decimal_of value

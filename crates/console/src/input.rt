@@ -1,27 +1,21 @@
 // Standard input.
-ghost use Rattle.console.specs.Input.{ReadsOn, ReadWithin};
+ghost use Rattle.std.specs.Prelude.{◌≤◌, length, IfOk};
+ghost use Rattle.console.specs.Input.{ReadsOn};
 
-use std::io::{Error, Read};
+use std::io::{Read, Result};
 
-// What came of reading: how many bytes there were, or why a read failed.
-#[derive(Drop)]
-pub enum Input {
-    Bytes(usize),
-    Failed(Error),
-}
-
-// Reads up to the end of the input or of the buffer.
-pub fn read_input<R: Read>(input: &mut R, buffer: &mut [u8]) -> Input
-    ensures within { ReadWithin buffer.new result }
-    ensures bytes { ReadsOn (R.remaining input.old) (R.remaining input.new) buffer.new result }
+// Reads up to the end of the input or of the buffer. The library reads to an end into a `Vec` alone (`read_to_end`), and no program
+// has a heap: so this loop.
+pub fn read_input<R: Read>(input: &mut R, buffer: &mut [u8]) -> Result<usize>
+    ensures within { IfOk result (λ n. n ≤ length buffer.new) }
+    ensures bytes { IfOk result (λ n. ReadsOn (R.remaining input.old) (R.remaining input.new) buffer.new n) }
 {
     let mut len = 0;
     while len < buffer.len() {
-        match input.read(&mut buffer[len..]) {
-            Ok(0) => return Input::Bytes(len),
-            Ok(more) => len += more,
-            Err(e) => return Input::Failed(e),
+        match input.read(&mut buffer[len..])? {
+            0 => return Ok(len),
+            more => len += more,
         }
     }
-    Input::Bytes(len)
+    Ok(len)
 }

@@ -55,39 +55,39 @@ arrives s len i j can =
 -- The answer and the store, as the code leaves them, by its verdict v.
 module _ (s : Switch) (store : List ℕ) (i j cell : ℕ) {v : Verdict} (is : v ≡ arrive_verdict s (length store) i j) where
   -- `next` is the place of the ring that the cell goes to
-  pub arrive_accepted : {next : ℕ} → v ≡ Ok tt →
-      let k = flow_of s.running.ports i j in
+  pub arrive_accepted : {k next : ℕ} → v ≡ Ok tt → k ≡ flow_of s.running.ports i j →
       let q = queue_at s k in
       next ≡ (q.place + q.count) % s.depth →
       Arrives s store i j cell (record { verdict = v; state = with_queues s (set s.fabric.queues k (longer q)) }) (set store (k * s.depth + next) cell)
   unfolding arrive_of
-  arrive_accepted told place = rw (← is, told, place) refl
+  arrive_accepted told at place = rw (← is, told, place, at) refl
 
   -- a refused arrival leaves state and store as they were
   pub arrive_refused : {r : Refusal} → v ≡ Err r → Arrives s store i j cell (record { verdict = v; state = s }) store
   unfolding arrive_of
   arrive_refused told = rw (← is, told) refl
 
--- the flow has a number in the lists, and its next cell a place in the store
-pub record Placed (s : Switch) (len i j : ℕ) : Type 0 where
+-- flow k has its places in the lists, and its next cell one in the store
+pub record Placed (s : Switch) (len k : ℕ) : Type 0 where
   pub deep : s.depth ≤ most_depth
-  pub few : flow_of s.running.ports i j < most_flows
-  pub room : (queue_at s (flow_of s.running.ports i j)).count < s.depth
-  pub once_around : let q = queue_at s (flow_of s.running.ports i j) in q.place + q.count < s.depth + s.depth
-  pub within : (p : ℕ) → p < s.depth → flow_of s.running.ports i j * s.depth + p < len
+  pub few : k < most_flows
+  pub room : (queue_at s k).count < s.depth
+  pub once_around : (queue_at s k).place + (queue_at s k).count < s.depth + s.depth
+  pub within : (p : ℕ) → p < s.depth → k * s.depth + p < len
   pub small : len ≤ most_flows * most_depth
 
-pub placed : (s : Switch) (len i j : ℕ) → CanArrive s len i j → Placed s len i j
-placed s len i j can =
+pub placed : (s : Switch) (len i j k : ℕ) → CanArrive s len i j → k ≡ flow_of s.running.ports i j → Placed s len k
+placed s len i j k can e =
     let n = s.running.ports in
     let v = valid s can.valid in
     let square : n * n ≤ most_flows = square_small n v.running.few_ports in
-    let flow : flow_of n i j < n * n = flow_below n i j can.board can.head in
+    let queue_room : (queue_at s k).count < s.depth = rw e can.room in
+    let flow : k < n * n = rw e (flow_below n i j can.board can.head) in
     record {
       deep = v.few_places;
       few = omega arith;
-      room = can.room;
-      once_around = omega (arith, v.queue_place (flow_of n i j) flow, can.room);
-      within = λ p l. omega (arith, can.store, row_within (flow_of n i j) (n * n) s.depth flow);
+      room = queue_room;
+      once_around = omega (arith, v.queue_place k flow, queue_room);
+      within = λ p l. omega (arith, can.store, row_within k (n * n) s.depth flow);
       small = omega (arith, can.store, mul-le-mul square v.few_places);
     }

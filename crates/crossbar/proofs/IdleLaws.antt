@@ -6,13 +6,11 @@ use mathlib.Core.List.{List}
 use native.Mathlib.Omega.{arith}
 use lib.ListN.{length}
 use borrow.Author.Tests.{not-false}
-use Rattle.std.specs.Prelude.{Ok}
+use Rattle.std.specs.Prelude.{Option, Some, None, Ok}
 use Rattle.refusal.proofs.ChainLaws.{refuse_passed}
 use Rattle.plan.specs.Range.{most_ports, most_flows}
 use Rattle.plan.specs.Desk.{row_of}
 use Rattle.multiplexer.specs.Window.{column_of}
-use Rattle.multiplexer.specs.declared.Choice.{Choice}
-use Rattle.multiplexer.specs.declared.Choice.TheVariants as choice
 use Rattle.multiplexer.proofs.ChoiceLaws.{idle_none}
 use Rattle.multiplexer.proofs.PortLaws.{row_length, column_length}
 use Rattle.fabric.specs.Answer.{answer_of}
@@ -53,23 +51,23 @@ module _
     unfolding head_choices
     heads_can = choices_named (column_of (plan_rates u.running) n) u.fabric.heads u.running.frame u.slot n few (λ j _. column_length (plan_rates u.running) n j)
 
-    board_idle : (i : ℕ) → i < n → answer_of (slot_moves u store).ports i ≡ Idle → choice_at (board_choices u) i ≡ choice.Idle
+    board_idle : (i : ℕ) → i < n → answer_of (slot_moves u store).answers i ≡ Idle → choice_at (board_choices u) i ≡ None
     board_idle i l h = go (choice_at (board_choices u) i) refl
       where
-        go : (c : Choice) → choice_at (board_choices u) i ≡ c → choice_at (board_choices u) i ≡ choice.Idle
-        go choice.Idle e = e
-        go (choice.Flow j) e =
+        go : (c : Option ℕ) → choice_at (board_choices u) i ≡ c → choice_at (board_choices u) i ≡ None
+        go None e = e
+        go (Some j) e =
             absurd (move_serves _ _ _ _ _ (sym (moves_served n u.depth store (board_choices u) u.fabric.queues u.fabric.crosspoints boards_can queues-full points_full i j l e).answer ∙ h))
 
     filled_full : length (slot_moves u store).crosspoints ≡ most_flows
     filled_full = (moves_length n u.depth store (board_choices u) u.fabric.queues u.fabric.crosspoints n).points_kept ∙ points_full
 
-    head_idle : (j : ℕ) → j < n → answer_of (slot_sends u store).ports j ≡ Idle → choice_at (head_choices u) j ≡ choice.Idle
+    head_idle : (j : ℕ) → j < n → answer_of (slot_sends u store).answers j ≡ Idle → choice_at (head_choices u) j ≡ None
     head_idle j l h = go (choice_at (head_choices u) j) refl
       where
-        go : (c : Choice) → choice_at (head_choices u) j ≡ c → choice_at (head_choices u) j ≡ choice.Idle
-        go choice.Idle e = e
-        go (choice.Flow i) e =
+        go : (c : Option ℕ) → choice_at (head_choices u) j ≡ c → choice_at (head_choices u) j ≡ None
+        go None e = e
+        go (Some i) e =
             absurd (send_serves _ _ (sym (sends_served n (head_choices u) (slot_moves u store).crosspoints heads_can filled_full i j l e).answer ∙ h))
 
     slot_idles : IdlesOnly u (slot_reply u store)

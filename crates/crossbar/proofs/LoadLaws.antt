@@ -18,6 +18,8 @@ use Rattle.planpair.specs.Rates.{overlaid}
 use Rattle.planpair.proofs.RateLaws.{overlaid_twice}
 use Rattle.crossbar.specs.Valid.{valid_of}
 use Rattle.crossbar.specs.State.{has_waiting}
+use Rattle.crossbar.specs.Start.{plan_over}
+use Rattle.plan.specs.declared.Plan.{Plan}
 use Rattle.crossbar.specs.Load.{with_plans, load_verdict, CanLoad, with_waiting, load_of}
 use Rattle.crossbar.specs.FormerLoad.{former_verdict, former_load, AsBefore}
 use Rattle.crossbar.specs.declared.state.Switch.{Switch}
@@ -100,10 +102,10 @@ load_state s n t rates e = rw e refl
 
 -- The answer, as the code puts it together from its verdict v.
 module _ (s : Switch) (n t : ℕ) (rates : List ℕ) {v : Verdict} (is : v ≡ load_verdict s n t rates) where
-  pub load_accepted : {laid : List ℕ} → v ≡ Ok tt → laid ≡ overlaid s.waiting.rates rates (n * n)
-      → ◌≡◌ {A = Reply} (record { verdict = v; state = with_plans s s.running (record { ports = n; frame = t; rates = laid }) 1 }) (load_of s n t rates)
+  pub load_accepted : {plan : Plan} → v ≡ Ok tt → plan ≡ plan_over s.waiting n t rates
+      → ◌≡◌ {A = Reply} (record { verdict = v; state = with_plans s s.running plan 1 }) (load_of s n t rates)
   unfolding load_of
-  load_accepted told laid = rw (laid, ← is, told) refl
+  load_accepted told made = rw (made, ← is, told) refl
 
   -- a refused load leaves the state as it was
   pub load_refused : {r : Refusal} → v ≡ Err r → ◌≡◌ {A = Reply} (record { verdict = v; state = s }) (load_of s n t rates)

@@ -15,7 +15,7 @@ use Rattle.plan.specs.declared.Plan.{Plan}
 use Rattle.plan.proofs.AcceptLaws.{accepted, accepts}
 use Rattle.crossbar.specs.State.{depth_in_range, store_fits}
 use Rattle.plan.specs.NoPlan.{no_plan}
-use Rattle.crossbar.specs.Start.{fresh_with, plan_of, start_verdict, CanStart, start_of}
+use Rattle.crossbar.specs.Start.{plan_over, fresh_with, plan_of, start_verdict, CanStart, start_of}
 use Rattle.planpair.specs.Rates.{overlaid, plan_rates}
 use Rattle.crossbar.specs.declared.state.Switch.{Switch}
 use Rattle.crossbar.specs.declared.state.Reply.{Reply}
@@ -48,10 +48,10 @@ starts n t rates depth len can =
 
 -- The answer, as the code puts it together from its verdict v and a fresh state.
 module _ (n t : ℕ) (rates : List ℕ) (depth : ℕ) (store : List ℕ) {v : Verdict} {fresh : Switch} (is : v ≡ start_verdict n t rates depth (length store)) where
-  pub start_accepted : {laid : List ℕ} → v ≡ Ok tt → laid ≡ overlaid (replicate most_flows 0) rates (n * n)
-      → fresh ≡ fresh_with (record { ports = n; frame = t; rates = laid }) depth → ◌≡◌ {A = Reply} (record { verdict = v; state = fresh }) (start_of n t rates depth store)
+  pub start_accepted : {none plan : Plan} → v ≡ Ok tt → none ≡ no_plan → plan ≡ plan_over none n t rates
+      → fresh ≡ fresh_with plan depth → ◌≡◌ {A = Reply} (record { verdict = v; state = fresh }) (start_of n t rates depth store)
   unfolding start_of
-  start_accepted told laid made = rw (made, laid, ← is, told) refl
+  start_accepted told none plan made = rw (made, plan, none, ← is, told) refl
 
   -- the state of a refused start is all 0
   pub start_refused : {r : Refusal} {none : Plan} → v ≡ Err r → none ≡ no_plan → fresh ≡ fresh_with none 0

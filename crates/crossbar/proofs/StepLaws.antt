@@ -10,20 +10,19 @@ use lib.Dec.{eqb}
 use lib.ListN.{length, take}
 use lib.Seq.{length-take-le}
 use borrow.Author.Tests.{eq-eqb, ne_eqb}
+use Rattle.std.specs.Prelude.{Option, Ok}
 use Rattle.refusal.specs.Verdict.{Verdict}
-use Rattle.std.specs.Prelude.{Ok}
 use Rattle.plan.specs.Range.{most_ports, most_flows}
 use Rattle.plan.specs.Desk.{row_of, desk_of}
 use Rattle.plan.specs.declared.Plan.{Plan}
 use Rattle.plan.proofs.BelowLaws.{and_true, lt_or_le}
 use Rattle.plan.proofs.DeskLaws.{desk_row}
 use Rattle.plan.proofs.LineLaws.{square_small}
-use Rattle.multiplexer.specs.declared.Choice.{Choice}
 use Rattle.multiplexer.specs.Window.{column_of}
 use Rattle.multiplexer.proofs.PortLaws.{row_length, column_length}
 use Rattle.planpair.specs.Takeover.{replaced, cleared}
 use Rattle.fabric.specs.Answer.{all_idle}
-use Rattle.side.specs.Choices.{choices_in, CanChoose, ServedAs}
+use Rattle.side.specs.Choices.{CanChoose, ServedAs}
 use Rattle.side.specs.Columns.{transposed}
 use Rattle.side.specs.Counts.{counts_of, ports_below}
 use Rattle.fabric.specs.Moves.{room_for_all, CanMoveAll}
@@ -96,12 +95,12 @@ module _ (s : Switch) (size : Sized s) (v : IsValid s) (store : List ℕ) (board
         (λ p l. desk_row _ _ n p (takes_over s) few l (running_part s size n few) (waiting_part s size n few))
         by-desk
 
-    boards_are : choices_in boards.turns ≡ board_choices u
+    boards_are : boards.choices ≡ board_choices u
     unfolding board_choices
     boards_are = by_rows.choices ∙ (rw (r.rates, r.ports, r.frame, r.slot, r.fabric) refl)
 
     -- number 13 is judged of the plan after a takeover
-    pub room_is : room_for_all n (choices_in boards.turns) s.fabric.queues s.fabric.crosspoints ≡ has_room u
+    pub room_is : room_for_all n boards.choices s.fabric.queues s.fabric.crosspoints ≡ has_room u
     room_is = rw (boards_are, r.ports, r.fabric) refl
 
     module _ (zeros : List ℕ) (full : length zeros ≡ most_flows)
@@ -110,22 +109,22 @@ module _ (s : Switch) (size : Sized s) (v : IsValid s) (store : List ℕ) (board
         by_heads : ServedAs (column_of (ruling s n) n) s.fabric.heads T s.slot n heads
         by_heads = served_ext _ _ _ _ _ _ _ (λ p l. desk_columns (ruling s n) n zeros few full p l) by-columns
 
-        heads_are : choices_in heads.turns ≡ head_choices u
+        heads_are : heads.choices ≡ head_choices u
         unfolding head_choices
         heads_are = by_heads.choices ∙ (rw (r.rates, r.ports, r.frame, r.slot, r.fabric) refl)
 
         board_counts : ports_below boards.ports s.fabric.boards n ≡ counts_of n (eqb (s.slot + 1) T) (board_choices u) s.fabric.boards n
         board_counts =
             served_counts _ _ T s.slot n boards few rows by_rows
-            ∙ ap (λ (c : List Choice). counts_of n (eqb (s.slot + 1) T) c s.fabric.boards n) (sym by_rows.choices ∙ boards_are)
+            ∙ ap (λ (c : List (Option ℕ)). counts_of n (eqb (s.slot + 1) T) c s.fabric.boards n) (sym by_rows.choices ∙ boards_are)
 
         head_counts : ports_below heads.ports s.fabric.heads n ≡ counts_of n (eqb (s.slot + 1) T) (head_choices u) s.fabric.heads n
         head_counts =
             served_counts _ _ T s.slot n heads few (λ p l. column_length (ruling s n) n p) by_heads
-            ∙ ap (λ (c : List Choice). counts_of n (eqb (s.slot + 1) T) c s.fabric.heads n) (sym by_heads.choices ∙ heads_are)
+            ∙ ap (λ (c : List (Option ℕ)). counts_of n (eqb (s.slot + 1) T) c s.fabric.heads n) (sym by_heads.choices ∙ heads_are)
 
         pub ran : run_of n s.depth store boards heads s.fabric
-            ≡ record { fabric = (after_slot u store).fabric; moves = (slot_moves u store).ports; sends = (slot_sends u store).ports }
+            ≡ record { fabric = (after_slot u store).fabric; moves = (slot_moves u store).answers; sends = (slot_sends u store).answers }
         unfolding after_slot
         ran = rw (boards_are, heads_are, board_counts, head_counts, r.ports, r.frame, r.depth, r.slot, r.fabric) refl
 
@@ -190,8 +189,8 @@ module _
     (boards : Side)
     (by-desk : ServedAs (λ p. desk_of (take (n * n) s.running.rates) (take (n * n) s.waiting.rates) n p (takes_over s)) s.fabric.boards s.running.frame s.slot n boards)
   where
-    abbrev board_choices_lem : List Choice
-    board_choices_lem = choices_in boards.turns
+    abbrev board_choices_lem : List (Option ℕ)
+    board_choices_lem = boards.choices
 
     few_ports : n ≤ most_ports
     few_ports = few_choose s (length store) n valid? fits j
@@ -265,17 +264,17 @@ module _
           heads_by : m ≡ n → ServedAs (λ p. desk_of (columns_in s n zeros) (columns_in s n zeros) n p false) s.fabric.heads s.running.frame s.slot n heads
           heads_by same = rw (are-columns, same) at by-columns
 
-          pub heads_can : CanChoose m (choices_in heads.turns)
+          pub heads_can : CanChoose m heads.choices
           heads_can = go room refl
             where
-              go : (b : Bool) → room ≡ b → CanChoose m (choices_in heads.turns)
+              go : (b : Bool) → room ≡ b → CanChoose m heads.choices
               go true e =
                   let same : m ≡ n = acting-is ∙ (rw e refl) in
                   let long = columns_length (ruling s n) n zeros few_ports full in
                   rw (same, (heads_by same).choices) (desk_named _ _ false s.fabric.heads s.running.frame s.slot n few_ports long long)
               go false e =
                   let none : m ≡ 0 = acting-is ∙ (rw e refl) in
-                  rw none (none_chooses (choices_in heads.turns))
+                  rw none (none_chooses heads.choices)
 
           module _
               (run : AfterSlot) (run_is : run ≡ run_of m s.depth store boards heads s.fabric)
@@ -300,7 +299,7 @@ module _
                 by_rows' : ServedAs (λ p. desk_of (take (s.running.ports * s.running.ports) s.running.rates) (take (s.running.ports * s.running.ports) s.waiting.rates) s.running.ports p (takes_over s)) s.fabric.boards s.running.frame s.slot s.running.ports boards
                 by_rows' = rw all at by-desk
 
-                ran' : run ≡ record { fabric = (after_slot (takeover_of s) store).fabric; moves = (slot_moves (takeover_of s) store).ports; sends = (slot_sends (takeover_of s) store).ports }
+                ran' : run ≡ record { fabric = (after_slot (takeover_of s) store).fabric; moves = (slot_moves (takeover_of s) store).answers; sends = (slot_sends (takeover_of s) store).answers }
                 ran' = run_is ∙ (rw (a.same, all) (ran s size a.rules store boards heads by_rows' zeros full (rw all at (heads_by a.same))))
 
               accepted : 1 ≤ m → answer (takeover_of s).running (takeover_of s).waiting (takeover_of s).waits ≡ step_of s store

@@ -7,7 +7,7 @@ use Rattle.refusal.specs.Verdict.{Verdict}
 use Rattle.plan.specs.Accept.{accept_of, IsPlan}
 use Rattle.plan.specs.declared.Plan.{Plan}
 use Rattle.crossbar.specs.Valid.{valid_of}
-use Rattle.planpair.specs.Rates.{overlaid}
+use Rattle.crossbar.specs.Start.{plan_over}
 use Rattle.crossbar.specs.declared.state.Switch.{Switch}
 use Rattle.crossbar.specs.declared.state.Reply.{Reply}
 
@@ -38,7 +38,7 @@ pub record CanLoad (s : Switch) (n t : ℕ) (rates : List ℕ) : Type 0 where
 
 -- a state with a plan laid into its waiting one
 abbrev pub with_waiting : Switch → ℕ → ℕ → List ℕ → Switch
-with_waiting s n t rates = with_plans s s.running (record { ports = n; frame = t; rates = overlaid s.waiting.rates rates (n * n) }) 1
+with_waiting s n t rates = with_plans s s.running (plan_over s.waiting n t rates) 1
 
 unfoldable pub load_of : Switch → ℕ → ℕ → List ℕ → Reply
 load_of s n t rates =

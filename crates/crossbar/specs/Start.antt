@@ -44,8 +44,12 @@ fresh_with plan depth =
           };
     }
 
+-- a plan in whose array stands what the old one has past its rates
+abbrev pub plan_over : Plan → ℕ → ℕ → List ℕ → Plan
+plan_over old n t rates = record { ports = n; frame = t; rates = overlaid old.rates rates (n * n) }
+
 abbrev pub plan_of : ℕ → ℕ → List ℕ → Plan
-plan_of n t rates = record { ports = n; frame = t; rates = overlaid (replicate most_flows 0) rates (n * n) }
+plan_of n t rates = plan_over no_plan n t rates
 
 unfoldable pub start_verdict : ℕ → ℕ → List ℕ → ℕ → ℕ → Verdict
 start_verdict n t rates depth len =

@@ -1,6 +1,6 @@
 -- One slot: takeover, choices, moves, sends, end of slot. Order: 12, 7, 13; "number 13 looks at the running plan after a
 -- takeover". "state, store and written lists are unchanged" by a refusal; "every port of a refused step reads idle".
-use Rattle.std.specs.Prelude.{ℕ, ◌+◌, ◌<◌, ◌≡◌, Bool, false, not, cond, ◌&&◌, List, eqb, length, get_or, Ok}
+use Rattle.std.specs.Prelude.{ℕ, ◌+◌, ◌<◌, ◌≡◌, Bool, false, not, cond, ◌&&◌, List, eqb, length, get_or, Option, Ok}
 use Rattle.refusal.specs.Chain.{refuse_if, if_accepted}
 use Rattle.refusal.specs.declared.Refusal.TheVariants.{StateInvalid, StoreLength, CrosspointFull}
 use Rattle.refusal.specs.Verdict.{Verdict}
@@ -8,7 +8,6 @@ use Rattle.plan.specs.Desk.{row_of}
 use Rattle.multiplexer.specs.Choose.{eligible_at}
 use Rattle.multiplexer.specs.Window.{column_of}
 use Rattle.fabric.specs.declared.flow.Answer.TheVariants.{Idle}
-use Rattle.multiplexer.specs.declared.Choice.{Choice}
 use Rattle.multiplexer.specs.declared.Multiplexer.{Multiplexer}
 use Rattle.plan.specs.declared.Plan.{Plan}
 use Rattle.planpair.specs.Rates.{plan_rates}
@@ -26,16 +25,16 @@ use Rattle.crossbar.specs.declared.state.SlotReply.{SlotReply}
 -- In what follows s is the state after a takeover.
 
 -- "All 2N ports choose": boards by the rows of a plan for n ports, heads by its columns.
-abbrev pub choices_by_rows : Plan → ℕ → List Multiplexer → ℕ → ℕ → List Choice
+abbrev pub choices_by_rows : Plan → ℕ → List Multiplexer → ℕ → ℕ → List (Option ℕ)
 choices_by_rows plan n boards t slot = choices_of (row_of (plan_rates plan) n) boards t slot n
 
-abbrev pub choices_by_columns : Plan → List Multiplexer → ℕ → List Choice
+abbrev pub choices_by_columns : Plan → List Multiplexer → ℕ → List (Option ℕ)
 choices_by_columns plan heads slot = choices_of (column_of (plan_rates plan) plan.ports) heads plan.frame slot plan.ports
 
-unfoldable pub board_choices : Switch → List Choice
+unfoldable pub board_choices : Switch → List (Option ℕ)
 board_choices s = choices_by_rows s.running s.running.ports s.fabric.boards s.running.frame s.slot
 
-unfoldable pub head_choices : Switch → List Choice
+unfoldable pub head_choices : Switch → List (Option ℕ)
 head_choices s = choices_by_columns s.running s.fabric.heads s.slot
 
 abbrev pub slot_moves : Switch → List ℕ → Moves
@@ -71,7 +70,7 @@ after_slot s store =
 
 -- what an accepted step answers
 abbrev pub slot_reply : Switch → List ℕ → SlotReply
-slot_reply s store = record { verdict = Ok tt; state = after_slot s store; moves = (slot_moves s store).ports; sends = (slot_sends s store).ports }
+slot_reply s store = record { verdict = Ok tt; state = after_slot s store; moves = (slot_moves s store).answers; sends = (slot_sends s store).answers }
 
 -- what a refused step answers
 abbrev pub refused_reply : Switch → Verdict → SlotReply
@@ -95,8 +94,8 @@ step_of s store =
     record {
       verdict = v;
       state = if_accepted v (after_slot u store) s;
-      moves = if_accepted v (slot_moves u store).ports all_idle;
-      sends = if_accepted v (slot_sends u store).ports all_idle;
+      moves = if_accepted v (slot_moves u store).answers all_idle;
+      sends = if_accepted v (slot_sends u store).answers all_idle;
     }
 
 -- what `step` ensures

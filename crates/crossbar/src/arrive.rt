@@ -7,8 +7,10 @@ use crate::valid::store_fits;
 use fabric::flow::Queue;
 use fabric::places::ring_place;
 use refusal::Refusal;
+use side::places::flow_place;
 
 impl Switch {
+    #[tactic(auto, unfolding(crate::specs::Arrive::arrive_verdict))]
     fn arrive_verdict(self, len: usize, i: usize, j: usize) -> Result<(), Refusal>
         ensures { result ≡ arrive_verdict self len i j }
     {
@@ -16,19 +18,14 @@ impl Switch {
             return Err(Refusal::StateInvalid);
         }
         let n = self.running.ports;
-        let depth = self.depth;
-        if !store_fits(n, depth, len) {
+        if !store_fits(n, self.depth, len) {
             return Err(Refusal::StoreLength);
         }
-        if n <= i {
+        if n <= i || n <= j {
             return Err(Refusal::NoSuchPort);
         }
-        if n <= j {
-            return Err(Refusal::NoSuchPort);
-        }
-        let fabric = self.fabric;
-        let queue = fabric.queues[i * n + j];
-        if depth <= queue.count as usize {
+        let queue = self.fabric.queues[flow_place(n, i, j)];
+        if self.depth <= usize::from(queue.count) {
             return Err(Refusal::QueueFull);
         }
         Ok(())
@@ -42,24 +39,19 @@ impl Switch {
         let Ok(()) = verdict else {
             return Reply {
                 state: self,
-                verdict: verdict,
+                verdict,
             };
         };
         let depth = self.depth;
-        let k = i * self.running.ports + j;
-        let mut fabric = self.fabric;
-        let queue = fabric.queues[k];
-        let next = ring_place(queue.place as usize + queue.count as usize, depth);
+        let k = flow_place(self.running.ports, i, j);
+        let queue = self.fabric.queues[k];
+        let next = ring_place(usize::from(queue.place) + usize::from(queue.count), depth);
         store[k * depth + next] = cell;
-        fabric.queues[k] = Queue {
-            place: queue.place,
+        let mut state = self;
+        state.fabric.queues[k] = Queue {
             count: queue.count + 1,
+            ..queue
         };
-        let mut s = self;
-        s.fabric = fabric;
-        Reply {
-            state: s,
-            verdict: verdict,
-        }
+        Reply { state, verdict }
     }
 }

@@ -2,10 +2,9 @@
 ghost use Rattle.std.specs.Prelude.{◌≡◌};
 ghost use Rattle.crossbar.specs.Load.{load_verdict, Loads};
 
+use crate::plans::plan_over;
 use crate::state::{Reply, Switch};
-use plan::Plan;
 use plan::acceptance::accept;
-use planpair::rates::overlay;
 use refusal::Refusal;
 
 impl Switch {
@@ -17,10 +16,7 @@ impl Switch {
             return Err(Refusal::StateInvalid);
         }
         accept(n, t, rates)?;
-        if n != self.running.ports {
-            return Err(Refusal::PlanMismatch);
-        }
-        if t != self.running.frame {
+        if n != self.running.ports || t != self.running.frame {
             return Err(Refusal::PlanMismatch);
         }
         Ok(())
@@ -34,21 +30,12 @@ impl Switch {
         let Ok(()) = verdict else {
             return Reply {
                 state: self,
-                verdict: verdict,
+                verdict,
             };
         };
-        let old = self.waiting.rates;
-        let waiting = Plan {
-            ports: n,
-            frame: t,
-            rates: overlay(old, rates, n * n),
-        };
-        let mut s = self;
-        s.waiting = waiting;
-        s.waits = 1;
-        Reply {
-            state: s,
-            verdict: verdict,
-        }
+        let mut state = self;
+        state.waiting = plan_over(self.waiting, n, t, rates);
+        state.waits = 1;
+        Reply { state, verdict }
     }
 }

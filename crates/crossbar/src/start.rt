@@ -2,6 +2,7 @@
 ghost use Rattle.std.specs.Prelude.{◌≡◌};
 ghost use Rattle.crossbar.specs.Start.{fresh_with, start_verdict, Starts};
 
+use crate::plans::plan_over;
 use crate::state::{Reply, Switch};
 use crate::valid::{depth_in_range, store_fits};
 use fabric::Fabric;
@@ -10,37 +11,32 @@ use multiplexer::Multiplexer;
 use plan::acceptance::accept;
 use plan::range::{MOST_FLOWS, MOST_PORTS};
 use plan::{Plan, no_plan};
-use planpair::rates::overlay;
 use refusal::Refusal;
 
 // A state that runs a plan, with no cell and no service.
+#[tactic(auto, unfolding(crate::specs::Start::fresh_with))]
 fn fresh_with(plan: Plan, depth: usize) -> Switch
     ensures { result ≡ fresh_with plan depth }
 {
-    let cells = [0u32; 2];
     let point = Crosspoint {
-        cells: cells,
+        cells: [0; 2],
         count: 0,
     };
-    let served = [0u16; MOST_PORTS];
-    let port = Multiplexer { served: served };
-    let queues = [Queue { place: 0, count: 0 }; MOST_FLOWS];
-    let crosspoints = [point; MOST_FLOWS];
-    let boards = [port; MOST_PORTS];
-    let heads = [port; MOST_PORTS];
-    let fabric = Fabric {
-        queues: queues,
-        crosspoints: crosspoints,
-        boards: boards,
-        heads: heads,
+    let port = Multiplexer {
+        served: [0; MOST_PORTS],
     };
     Switch {
         running: plan,
         waiting: no_plan(),
         waits: 0,
-        depth: depth,
+        depth,
         slot: 0,
-        fabric: fabric,
+        fabric: Fabric {
+            queues: [Queue { place: 0, count: 0 }; MOST_FLOWS],
+            crosspoints: [point; MOST_FLOWS],
+            boards: [port; MOST_PORTS],
+            heads: [port; MOST_PORTS],
+        },
     }
 }
 
@@ -67,17 +63,11 @@ pub fn start(n: usize, t: u32, rates: &[u16], depth: usize, store: &[u32]) -> Re
     let Ok(()) = verdict else {
         return Reply {
             state: fresh_with(no_plan(), 0),
-            verdict: verdict,
+            verdict,
         };
     };
-    let zeros = [0u16; MOST_FLOWS];
-    let plan = Plan {
-        ports: n,
-        frame: t,
-        rates: overlay(zeros, rates, n * n),
-    };
     Reply {
-        state: fresh_with(plan, depth),
-        verdict: verdict,
+        state: fresh_with(plan_over(no_plan(), n, t, rates), depth),
+        verdict,
     }
 }

@@ -1,6 +1,6 @@
 // The state of the switch, and what its calls answer.
 use fabric::Fabric;
-use fabric::flow::Port;
+use fabric::flow::Answer;
 use plan::Plan;
 use plan::range::MOST_PORTS;
 use refusal::Refusal;
@@ -31,6 +31,6 @@ pub struct Reply {
 pub struct SlotReply {
     pub state: Switch,
     pub verdict: Result<(), Refusal>,
-    pub moves: [Port; MOST_PORTS],
-    pub sends: [Port; MOST_PORTS],
+    pub moves: [Answer; MOST_PORTS],
+    pub sends: [Answer; MOST_PORTS],
 }

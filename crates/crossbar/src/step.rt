@@ -1,7 +1,6 @@
 // One slot of the switch. In a step that is refused no port acts: the slot's phases are the same, for 0 ports. With one way
 // through them the compiler copies the state no more than it has to.
-ghost use Rattle.std.specs.Prelude.{true, cond, ◌&&◌, ◌≡◌, ◌+◌, ◌*◌, ◌≤◌, eqb, length};
-ghost use Rattle.std.specs.Prelude.{Ok};
+ghost use Rattle.std.specs.Prelude.{true, cond, ◌&&◌, ◌≡◌, ◌+◌, ◌*◌, ◌≤◌, eqb, length, Ok};
 ghost use Rattle.plan.specs.Range.{most_ports};
 ghost use Rattle.plan.specs.Flag.{is_set};
 ghost use Rattle.fabric.specs.Flow.{most_depth};
@@ -23,10 +22,7 @@ use side::columns::transpose;
 fn acting(n: usize, go: bool) -> usize
     ensures { result ≡ cond go n 0 }
 {
-    if go {
-        return n;
-    }
-    0
+    if go { n } else { 0 }
 }
 
 // 12, 7 and 13, in this order.
@@ -50,30 +46,21 @@ fn fits_if_valid(valid: bool, n: usize, depth: usize, len: usize) -> bool
     requires { valid ≡ true → (n ≤ most_ports) × (depth ≤ most_depth) }
     ensures { result ≡ (valid && store_fits n depth len) }
 {
-    if !valid {
-        return false;
-    }
-    store_fits(n, depth, len)
+    valid && store_fits(n, depth, len)
 }
 
 // Whether a waiting plan takes over.
 fn takes_over(slot: u32, waits: u8) -> bool
     ensures { result ≡ (eqb slot 0 && is_set waits) }
 {
-    if slot != 0 {
-        return false;
-    }
-    waits != 0
+    slot == 0 && waits != 0
 }
 
 // The list that rules the slot; a waiting one need not have taken over yet.
 fn ruling<'a>(running: &'a [u16], waiting: &'a [u16], takeover: bool) -> &'a [u16]
     ensures { result.now ≡ cond takeover waiting.now running.now }
 {
-    if takeover {
-        return waiting;
-    }
-    running
+    if takeover { waiting } else { running }
 }
 
 // The columns of the list that rules the slot, as the rows of an array.
@@ -96,12 +83,12 @@ fn next_slot(n: usize, slot: u32, t: u32) -> u32
     ensures { result ≡ cond (eqb n 0) slot (cond (eqb (slot + 1) t) 0 (slot + 1)) }
 {
     if n == 0 {
-        return slot;
+        slot
+    } else if slot + 1 == t {
+        0
+    } else {
+        slot + 1
     }
-    if slot + 1 == t {
-        return 0;
-    }
-    slot + 1
 }
 
 impl Switch {
@@ -111,7 +98,6 @@ impl Switch {
         requires { Judged self (length store.now) n valid fits }
         ensures { Steps self store.now result }
     {
-        let mut next = self;
         let rates = self.running.rates;
         let waiting_rates = self.waiting.rates;
         let running = &rates[..n * n];
@@ -119,37 +105,29 @@ impl Switch {
         let t = self.running.frame;
         let takeover = takes_over(self.slot, self.waits);
         let fabric = self.fabric;
-        let board_counts = fabric.boards;
-        let boards = serve_all(board_counts, running, waiting, takeover, n, t, self.slot);
-        let turns = boards.turns;
-        let queues = fabric.queues;
-        let points = fabric.crosspoints;
-        let room = room_for_all(queues, points, turns, n);
+        let boards = serve_all(fabric.boards, running, waiting, takeover, n, t, self.slot);
+        let room = room_for_all(fabric.queues, fabric.crosspoints, boards.choices, n);
         let m = acting(n, room);
-        let mut columns = [0u16; MOST_FLOWS];
+        let mut columns = [0; MOST_FLOWS];
         columns_of(running, waiting, takeover, n, &mut columns);
         let rows = &columns[..m * m];
-        let head_counts = fabric.heads;
-        let heads = serve_all(head_counts, rows, rows, false, m, t, self.slot);
+        let heads = serve_all(fabric.heads, rows, rows, false, m, t, self.slot);
         let ran = fabric.run(store, boards, heads, m, self.depth);
-        let after = ran.fabric;
-        let moves = ran.moves;
-        let sends = ran.sends;
-        let verdict = verdict_by(valid, fits, room);
+        let mut next = self;
         next.slot = next_slot(m, self.slot, t);
-        next.fabric = after;
-        if takeover & (m != 0) {
-            let old = next.running;
-            let taken = next.waiting;
-            next.running = replaced(old, taken);
-            next.waiting = cleared(taken);
+        next.fabric = ran.fabric;
+        if takeover && m != 0 {
+            next.running = replaced(self.running, self.waiting);
+            next.waiting = cleared(self.waiting);
             next.waits = 0;
         }
+        let moves = ran.moves;
+        let sends = ran.sends;
         SlotReply {
             state: next,
-            verdict: verdict,
-            moves: moves,
-            sends: sends,
+            verdict: verdict_by(valid, fits, room),
+            moves,
+            sends,
         }
     }
 

@@ -11,16 +11,15 @@ use fabric::valid::flows_valid;
 use planpair::valid::plans_valid;
 use side::valid::counts_valid;
 
+#[tactic(auto, unfolding(crate::specs::State::depth_in_range))]
 pub fn depth_in_range(depth: usize) -> bool
     ensures { result ≡ depth_in_range depth }
 {
-    if depth < 1 {
-        return false;
-    }
-    depth <= MOST_DEPTH
+    (1..=MOST_DEPTH).contains(&depth)
 }
 
 // Whether a store of `len` places has N x N x Q.
+#[tactic(auto, unfolding(crate::specs::State::store_fits))]
 pub fn store_fits(n: usize, depth: usize, len: usize) -> bool
     requires { (n ≤ most_ports) × (depth ≤ most_depth) }
     ensures { result ≡ store_fits n depth len }
@@ -29,7 +28,9 @@ pub fn store_fits(n: usize, depth: usize, len: usize) -> bool
 }
 
 impl Switch {
-    // Whether no rule of number 12 is broken: of the plans, of Q and the slot, of the flows, of the counts.
+    // Whether no rule of number 12 is broken: of the plans, of Q and the slot, of the flows, of the counts. What is lent is a
+    // local copy: a part of the state that is lent keeps the whole of it in one piece, which the compiler then copies.
+    #[tactic(auto, unfolding(crate::specs::Valid::valid_of))]
     pub fn is_valid(self) -> bool
         ensures { result ≡ valid_of self }
     {
@@ -38,31 +39,13 @@ impl Switch {
         let rates = self.running.rates;
         let waiting = self.waiting.rates;
         let waits = self.waits != 0;
-        if !plans_valid(
-            n,
-            t,
-            &rates,
-            self.waiting.ports,
-            self.waiting.frame,
-            &waiting,
-            waits,
-        ) {
-            return false;
-        }
-        if !depth_in_range(self.depth) {
-            return false;
-        }
-        if t <= self.slot {
-            return false;
-        }
         let fabric = self.fabric;
-        let queues = fabric.queues;
-        let points = fabric.crosspoints;
-        if !flows_valid(queues, points, n, self.depth) {
+        if !plans_valid(n, t, &rates, self.waiting.ports, self.waiting.frame, &waiting, waits) {
             return false;
         }
-        let boards = fabric.boards;
-        let heads = fabric.heads;
-        counts_valid(&rates[..n * n], boards, heads, n, self.slot)
+        depth_in_range(self.depth)
+            && self.slot < t
+            && flows_valid(fabric.queues, fabric.crosspoints, n, self.depth)
+            && counts_valid(&rates[..n * n], fabric.boards, fabric.heads, n, self.slot)
     }
 }

@@ -1,64 +1,59 @@
-// The printout, which is one number a line. Each function writes into a buffer from the place `at` and answers the place
-// behind.
-ghost use Rattle.std.specs.Prelude.{◌≡◌, ◌*◌, ◌≤◌};
+// The printout, which is one number a line. Each function puts its lines behind those that a text has.
+ghost use Rattle.std.specs.Prelude.{◌≡◌, ◌+◌, ◌*◌, ◌≤◌, ◌++◌, length};
+ghost use Rattle.arrayvec.specs.ArrayString.{array_string_len};
 ghost use Rattle.multiplexer.specs.Choose.{rounded_up};
 ghost use Rattle.multiplexer.specs.Deadlines.{table_frame};
-ghost use Rattle.console.specs.Text.{HasRoom, Written};
-ghost use Rattle.deadlines.specs.Printout.{line_of, rate_lines_of, printout_of};
+ghost use Rattle.deadlines.specs.Printout.{line_of, rate_lines_of, printout_of, printout_room};
 
-use console::text::{number, put};
+use arrayvec::ArrayString;
+use console::text::number;
 use multiplexer::TABLE_FRAME;
 
 // A number of 64 bits, LF.
 const LINE_ROOM: usize = 20 + 1;
 
 // Room for the printout: no rate has more lines than the highest one.
-pub const PRINTOUT_ROOM: usize = TABLE_FRAME as usize * (TABLE_FRAME as usize * LINE_ROOM);
+const PRINTOUT_ROOM: usize = TABLE_FRAME as usize * (TABLE_FRAME as usize * LINE_ROOM);
+
+pub type Text = ArrayString<PRINTOUT_ROOM>;
 
 // s × 64 / a rounded up.
+#[tactic(auto, using(multiplexer::proofs::RoundLaws::quotient_rounded))]
 fn deadline(a: u32, s: u32) -> u64
     requires { (1 ≤ a) × (a ≤ table_frame) × (s ≤ a) }
     ensures { result ≡ rounded_up (s * table_frame) a }
 {
     let sum = s * TABLE_FRAME + (a - 1);
-    (sum as u64) / (a as u64)
+    u64::from(sum / a)
 }
 
-fn line(out: &mut [u8], at: usize, value: u64) -> usize
-    requires { HasRoom out.old at (line_of value) }
-    ensures { Written out.old at (line_of value) out.new result }
+fn line(out: &mut Text, value: u64)
+    requires { array_string_len out.old + length (line_of value) ≤ printout_room }
+    ensures { out.new.bytes ≡ out.old.bytes ++ line_of value }
 {
-    let end = number(out, at, value);
-    put(out, end, b"\n")
+    number(out, value);
+    out.push_str("\n");
 }
 
 // The lines of rate a.
-fn rate_lines(out: &mut [u8], from: usize, a: u32) -> usize
-    requires { (1 ≤ a) × (a ≤ table_frame) × HasRoom out.old from (rate_lines_of a) }
-    ensures { Written out.old from (rate_lines_of a) out.new result }
+#[tactic(auto, using(console::proofs::TextBelowLaws::put_below), unfolding(crate::specs::Printout::rate_lines_of))]
+fn rate_lines(out: &mut Text, a: u32)
+    requires { (1 ≤ a) × (a ≤ table_frame) × (array_string_len out.old + length (rate_lines_of a) ≤ printout_room) }
+    ensures { out.new.bytes ≡ out.old.bytes ++ rate_lines_of a }
 {
-    let mut at = from;
     for k in 0..a {
-        at = line(out, at, deadline(a, k + 1));
+        line(out, deadline(a, k + 1));
     }
-    at
 }
 
 // The lines of all rates.
-fn rates_lines(out: &mut [u8]) -> usize
-    requires { HasRoom out.old 0 printout_of }
-    ensures { Written out.old 0 printout_of out.new result }
+#[tactic(auto, using(console::proofs::TextBelowLaws::put_below), unfolding(crate::specs::Printout::printout_of))]
+pub fn printout() -> Text
+    ensures { result.bytes ≡ printout_of }
 {
-    let mut at = 0;
+    let mut out = Text::new();
     for b in 0..TABLE_FRAME {
-        at = rate_lines(out, at, b + 1);
+        rate_lines(&mut out, b + 1);
     }
-    at
-}
-
-// Puts the printout at the start of the buffer, and answers how many bytes it has.
-pub fn printout(out: &mut [u8; PRINTOUT_ROOM]) -> usize
-    ensures { Written out.old 0 printout_of out.new result }
-{
-    rates_lines(out)
+    out
 }

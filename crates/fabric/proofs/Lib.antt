@@ -1,4 +1,5 @@
 pub mod FlowLaws
+pub mod LoopLaws
 pub mod CountLaws
 pub mod MoveLaws
 pub mod SendLaws

@@ -9,21 +9,20 @@ use lib.Dec.{eqb}
 use lib.ListN.{length, get_or, set, length-set}
 use lib.Seq.{get_or-set_same, get_or-set_other}
 use borrow.Author.Tests.{eqb-true, eqb-false}
+use Rattle.std.specs.Prelude.{Option, Some, None}
 use Rattle.plan.specs.Range.{most_ports, most_flows}
 use Rattle.plan.specs.Lines.{flow_of}
 use Rattle.plan.proofs.LineLaws.{flow_below, flow_one}
-use Rattle.multiplexer.specs.declared.Choice.{Choice}
-use Rattle.multiplexer.specs.declared.Choice.TheVariants.{Idle, Flow}
 use Rattle.multiplexer.specs.declared.Multiplexer.{Multiplexer}
 use Rattle.fabric.specs.Flow.{no_point}
-use Rattle.fabric.specs.Answer.{port, answer_of}
+use Rattle.fabric.specs.Answer.{answer_of}
 use Rattle.side.specs.Choices.{choice_at, NamesBelow, CanChoose}
 use Rattle.fabric.specs.Sends.{Sends, send_none, send_cell, send_of, head_sends, sends_of}
 use Rattle.fabric.specs.declared.flow.Crosspoint.{Crosspoint}
-use Rattle.fabric.specs.declared.flow.Port.{Port}
+use Rattle.fabric.specs.declared.flow.Answer.{Answer}
 use Rattle.fabric.specs.declared.flow.Answer.TheVariants as answer
 use Rattle.fabric.specs.declared.sends.Send.{Send}
-use Rattle.fabric.specs.declared.sends.AfterSends.{AfterSends}
+use Rattle.fabric.specs.declared.AfterServices.{AfterServices}
 use Rattle.fabric.specs.declared.flow.Queue.{Queue}
 use Rattle.fabric.specs.declared.Fabric.{Fabric}
 use Rattle.side.proofs.ListLaws.{get_d_repeated}
@@ -40,9 +39,9 @@ send_case P i x none some = go (eqb x.count 0) refl
     go false e = let ne = eqb-false x.count 0 e in rw e (some (omega arith))
 
 -- a service is not answered by "idle"
-pub send_serves : (i : ℕ) (x : Crosspoint) → (send_of i x).port.answer ≡ answer.Idle → ⊥
+pub send_serves : (i : ℕ) (x : Crosspoint) → (send_of i x).answer ≡ answer.Idle → ⊥
 send_serves i x =
-    send_case (λ r. r.port.answer ≡ answer.Idle → ⊥) i x
+    send_case (λ r. r.answer ≡ answer.Idle → ⊥) i x
     (λ _ (e : answer.Empty i ≡ answer.Idle). let z : ◌≡◌ {A = ℕ} 0 1 = cc in omega arith)
     (λ _ (e : answer.Moved i (get_or x.cells 0 0) ≡ answer.Idle). let z : ◌≡◌ {A = ℕ} 0 1 = cc in omega arith)
 
@@ -51,46 +50,46 @@ abbrev pub flow_send : ℕ → List Crosspoint → ℕ → ℕ → Send
 flow_send n points i j = send_of i (get_or points (flow_of n i j) no_point)
 
 abbrev pub with_send : ℕ → ℕ → Sends → Send → Sends
-with_send j k f r = record { crosspoints = set f.crosspoints k r.point; ports = set f.ports j r.port }
+with_send j k f r = record { crosspoints = set f.crosspoints k r.point; answers = set f.answers j r.answer }
 
-module _ (n : ℕ) (choices : List Choice) (points : List Crosspoint) where
+module _ (n : ℕ) (choices : List (Option ℕ)) (points : List Crosspoint) where
   -- the heads below m
   abbrev after : ℕ → Sends
   after m = sends_of n choices points m
 
   -- one head more, by its choice
-  pub sends_idle_step : (m : ℕ) (f : Sends) → f ≡ after m → choice_at choices m ≡ Idle → f ≡ after (m + 1)
+  pub sends_idle_step : (m : ℕ) (f : Sends) → f ≡ after m → choice_at choices m ≡ None → f ≡ after (m + 1)
   unfolding sends_of head_sends
   sends_idle_step m f e c = rw (add-one, c) e
 
-  pub sends_flow_step : (m i k : ℕ) (f : Sends) (r : Send) → f ≡ after m → choice_at choices m ≡ Flow i → k ≡ flow_of n i m
+  pub sends_flow_step : (m i k : ℕ) (f : Sends) (r : Send) → f ≡ after m → choice_at choices m ≡ Some i → k ≡ flow_of n i m
       → r ≡ send_of i (get_or f.crosspoints k no_point) → with_send m k f r ≡ after (m + 1)
   unfolding sends_of head_sends
   sends_flow_step m i k f r e c ek er = rw (add-one, c, er, ek, e)
 
   -- head m serves flow k
   abbrev serves : ℕ → ℕ → Type 0
-  serves m k = (i : ℕ) × (choice_at choices m ≡ Flow i) × (flow_of n i m ≡ k)
+  serves m k = (i : ℕ) × (choice_at choices m ≡ Some i) × (flow_of n i m ≡ k)
 
   point_other : (m k : ℕ) → (serves m k → ⊥) → get_or (after (suc m)).crosspoints k no_point ≡ get_or (after m).crosspoints k no_point
   unfolding sends_of head_sends
   point_other m k h = go (choice_at choices m) refl
     where
-      go : (c : Choice) → choice_at choices m ≡ c → get_or (head_sends n m c (after m)).crosspoints k no_point ≡ get_or (after m).crosspoints k no_point
-      go Idle e = refl
-      go (Flow i) e = get_or-set_other (after m).crosspoints (flow_of n i m) k _ no_point (λ x. h (i, e, sym x))
+      go : (c : Option ℕ) → choice_at choices m ≡ c → get_or (head_sends n m c (after m)).crosspoints k no_point ≡ get_or (after m).crosspoints k no_point
+      go None e = refl
+      go (Some i) e = get_or-set_other (after m).crosspoints (flow_of n i m) k _ no_point (λ x. h (i, e, sym x))
 
-  answer_other : (m p : ℕ) → (p ≡ m → ⊥) → answer_of (after (suc m)).ports p ≡ answer_of (after m).ports p
+  answer_other : (m p : ℕ) → (p ≡ m → ⊥) → answer_of (after (suc m)).answers p ≡ answer_of (after m).answers p
   unfolding sends_of head_sends
   answer_other m p h = go (choice_at choices m)
     where
-      go : (c : Choice) → answer_of (head_sends n m c (after m)).ports p ≡ answer_of (after m).ports p
-      go Idle = refl
-      go (Flow i) = ap (λ (x : Port). x.answer) (get_or-set_other (after m).ports m p _ (port answer.Idle) h)
+      go : (c : Option ℕ) → answer_of (head_sends n m c (after m)).answers p ≡ answer_of (after m).answers p
+      go None = refl
+      go (Some i) = get_or-set_other (after m).answers m p _ answer.Idle h
 
   -- flow (i, j) is served by head j alone
-  only : (p i j : ℕ) → p < n → j < n → serves p (flow_of n i j) → (p ≡ j) × (choice_at choices p ≡ Flow i)
-  only p i j hp hj (g, e, same) = let both = flow_one n g p i j hp hj same in (both.1, e ∙ ap Flow both.0)
+  only : (p i j : ℕ) → p < n → j < n → serves p (flow_of n i j) → (p ≡ j) × (choice_at choices p ≡ Some i)
+  only p i j hp hj (g, e, same) = let both = flow_one n g p i j hp hj same in (both.1, e ∙ ap Some both.0)
 
   -- a crosspoint that no head below m serves stays as it was
   kept : (m k : ℕ) → ((p : ℕ) → p < m → serves p k → ⊥) → get_or (after m).crosspoints k no_point ≡ get_or points k no_point
@@ -99,13 +98,13 @@ module _ (n : ℕ) (choices : List Choice) (points : List Crosspoint) where
 
   pub record SendLengths (f : Sends) : Type 0 where
     pub points_kept : length f.crosspoints ≡ length points
-    pub all_ports : length f.ports ≡ most_ports
+    pub all_ports : length f.answers ≡ most_ports
 
-  length_step : (m : ℕ) (c : Choice) (f : Sends) → SendLengths f → SendLengths (head_sends n m c f)
+  length_step : (m : ℕ) (c : Option ℕ) (f : Sends) → SendLengths f → SendLengths (head_sends n m c f)
   unfolding head_sends
-  length_step m Idle f h = h
-  length_step m (Flow i) f h =
-      record { points_kept = length-set f.crosspoints _ _ ∙ h.points_kept; all_ports = length-set f.ports _ _ ∙ h.all_ports }
+  length_step m None f h = h
+  length_step m (Some i) f h =
+      record { points_kept = length-set f.crosspoints _ _ ∙ h.points_kept; all_ports = length-set f.answers _ _ ∙ h.all_ports }
 
   pub sends_length : (m : ℕ) → SendLengths (after m)
   unfolding sends_of
@@ -113,29 +112,29 @@ module _ (n : ℕ) (choices : List Choice) (points : List Crosspoint) where
   sends_length (suc m) = length_step m (choice_at choices m) (after m) (sends_length m)
 
   -- head m's service, with what it finds
-  served_step : (m i : ℕ) → m < n → choice_at choices m ≡ Flow i
+  served_step : (m i : ℕ) → m < n → choice_at choices m ≡ Some i
       → after (suc m) ≡ with_send m (flow_of n i m) (after m) (flow_send n points i m)
   unfolding sends_of head_sends
   served_step m i l c =
       let is = kept m (flow_of n i m) (λ p h s. omega (arith, (only p i m (omega arith) l s).0)) in
       rw (c, is)
 
-  sends_answer_past : (m p : ℕ) → m ≤ p → answer_of (after m).ports p ≡ answer.Idle
+  sends_answer_past : (m p : ℕ) → m ≤ p → answer_of (after m).answers p ≡ answer.Idle
   unfolding sends_of
   sends_answer_past m p l =
-      not_yet (λ m p. answer_of (after m).ports p) answer_other m p l
-      ∙ ap (λ (x : Port). x.answer) (get_d_repeated most_ports p (port answer.Idle))
+      not_yet (λ m p. answer_of (after m).answers p) answer_other m p l
+      ∙ get_d_repeated most_ports p answer.Idle
 
-  pub sends_answer_idle : (j : ℕ) → j < n → choice_at choices j ≡ Idle → answer_of (after n).ports j ≡ answer.Idle
+  pub sends_answer_idle : (j : ℕ) → j < n → choice_at choices j ≡ None → answer_of (after n).answers j ≡ answer.Idle
   unfolding sends_of head_sends
-  sends_answer_idle j l c = done (λ m p. answer_of (after m).ports p) answer_other n j l ∙ rw c (sends_answer_past j j (omega arith))
+  sends_answer_idle j l c = done (λ m p. answer_of (after m).answers p) answer_other n j l ∙ rw c (sends_answer_past j j (omega arith))
 
   -- the flow that head j serves, and its answer
   pub record Sent (i j : ℕ) : Type 0 where
     pub point : get_or (after n).crosspoints (flow_of n i j) no_point ≡ (flow_send n points i j).point
-    pub answer : answer_of (after n).ports j ≡ (flow_send n points i j).port.answer
+    pub answer : answer_of (after n).answers j ≡ (flow_send n points i j).answer
 
-  pub sends_served : CanChoose n choices → length points ≡ most_flows → (i j : ℕ) → j < n → choice_at choices j ≡ Flow i → Sent i j
+  pub sends_served : CanChoose n choices → length points ≡ most_flows → (i j : ℕ) → j < n → choice_at choices j ≡ Some i → Sent i j
   sends_served h full i j l c =
       let k = flow_of n i j in
       let r = flow_send n points i j in
@@ -148,13 +147,13 @@ module _ (n : ℕ) (choices : List Choice) (points : List Crosspoint) where
             ∙ ap (λ (f : Sends). get_or f.crosspoints k no_point) e
             ∙ get_or-set_same (after j).crosspoints k r.point no_point (omega (arith, size.points_kept));
         answer =
-            done (λ m p. answer_of (after m).ports p) answer_other n j l
-            ∙ ap (λ (f : Sends). answer_of f.ports j) e
-            ∙ ap (λ (x : Port). x.answer) (get_or-set_same (after j).ports j r.port (port answer.Idle) (omega (arith, size.all_ports, h.few_ports)));
+            done (λ m p. answer_of (after m).answers p) answer_other n j l
+            ∙ ap (λ (f : Sends). answer_of f.answers j) e
+            ∙ get_or-set_same (after j).answers j r.answer answer.Idle (omega (arith, size.all_ports, h.few_ports));
       }
 
   -- a flow that its head doesn't serve
-  pub sends_passed : (i j : ℕ) → j < n → (choice_at choices j ≡ Flow i → ⊥)
+  pub sends_passed : (i j : ℕ) → j < n → (choice_at choices j ≡ Some i → ⊥)
       → get_or (after n).crosspoints (flow_of n i j) no_point ≡ get_or points (flow_of n i j) no_point
   sends_passed i j hj otherwise =
       kept n (flow_of n i j) (λ p l s. let at = only p i j l hj s in otherwise (ap (choice_at choices) (sym at.0) ∙ at.1))
@@ -164,12 +163,12 @@ module _ (n : ℕ) (choices : List Choice) (points : List Crosspoint) where
   sends_past named k h = kept n k (λ p l (i, c, e). omega (arith, flow_below n i p (named p i l c) l))
 
 -- the fabric after the sends, put together from the lists that they change and those that stay
-pub sent_whole : (a b : Fabric) (ports : List Port) (s : Sends) → a.queues ≡ b.queues → a.boards ≡ b.boards → a.heads ≡ b.heads
-    → ◌≡◌ {A = Sends} (record { crosspoints = a.crosspoints; ports = ports }) s
-    → ◌≡◌ {A = AfterSends} (record { fabric = a; ports = ports })
-    (record { fabric = record { queues = b.queues; crosspoints = s.crosspoints; boards = b.boards; heads = b.heads }; ports = s.ports })
-sent_whole a b ports s eq eb eh e =
-    ap {A = List Queue} {B = AfterSends} (λ x. record { fabric = record { queues = x; crosspoints = a.crosspoints; boards = a.boards; heads = a.heads }; ports = ports }) eq
-    ∙ ap {A = List Multiplexer} {B = AfterSends} (λ x. record { fabric = record { queues = b.queues; crosspoints = a.crosspoints; boards = x; heads = a.heads }; ports = ports }) eb
-    ∙ ap {A = List Multiplexer} {B = AfterSends} (λ x. record { fabric = record { queues = b.queues; crosspoints = a.crosspoints; boards = b.boards; heads = x }; ports = ports }) eh
-    ∙ ap {A = Sends} {B = AfterSends} (λ x. record { fabric = record { queues = b.queues; crosspoints = x.crosspoints; boards = b.boards; heads = b.heads }; ports = x.ports }) e
+pub sent_whole : (a b : Fabric) (answers : List Answer) (s : Sends) → a.queues ≡ b.queues → a.boards ≡ b.boards → a.heads ≡ b.heads
+    → ◌≡◌ {A = Sends} (record { crosspoints = a.crosspoints; answers = answers }) s
+    → ◌≡◌ {A = AfterServices} (record { fabric = a; answers = answers })
+    (record { fabric = record { queues = b.queues; crosspoints = s.crosspoints; boards = b.boards; heads = b.heads }; answers = s.answers })
+sent_whole a b answers s eq eb eh e =
+    ap {A = List Queue} {B = AfterServices} (λ x. record { fabric = record { queues = x; crosspoints = a.crosspoints; boards = a.boards; heads = a.heads }; answers = answers }) eq
+    ∙ ap {A = List Multiplexer} {B = AfterServices} (λ x. record { fabric = record { queues = b.queues; crosspoints = a.crosspoints; boards = x; heads = a.heads }; answers = answers }) eb
+    ∙ ap {A = List Multiplexer} {B = AfterServices} (λ x. record { fabric = record { queues = b.queues; crosspoints = a.crosspoints; boards = b.boards; heads = x }; answers = answers }) eh
+    ∙ ap {A = Sends} {B = AfterServices} (λ x. record { fabric = record { queues = b.queues; crosspoints = x.crosspoints; boards = b.boards; heads = b.heads }; answers = x.answers }) e

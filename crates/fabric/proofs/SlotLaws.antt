@@ -3,7 +3,7 @@ use Prim.Native.Nat.{ℕ}
 use mathlib.Core.Path.{◌≡◌, refl}
 use mathlib.Core.List.{List}
 use native.Mathlib.Omega.{arith}
-use Rattle.multiplexer.specs.declared.Choice.{Choice}
+use Rattle.std.specs.Prelude.{Option}
 use Rattle.fabric.specs.Answer.{all_idle}
 use Rattle.side.specs.Choices.{CanChoose}
 use Rattle.side.proofs.CountLaws.{ports_none}
@@ -18,5 +18,5 @@ pub run_none : (depth : ℕ) (store : List ℕ) (boards heads : Side) (f : Fabri
 unfolding moves_of sends_of
 run_none depth store boards heads f = rw (ports_none boards.ports f.boards, ports_none heads.ports f.heads) refl
 
-pub none_chooses : (choices : List Choice) → CanChoose 0 choices
+pub none_chooses : (choices : List (Option ℕ)) → CanChoose 0 choices
 none_chooses choices = record { few_ports = omega arith; named = λ p q l. absurd (omega arith) }

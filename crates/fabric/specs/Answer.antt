@@ -4,7 +4,6 @@ use Rattle.std.specs.Prelude.{ℕ, Bool, false, cond, List, [], ◌∷◌, eqb, 
 use Rattle.plan.specs.Range.{most_ports}
 use Rattle.fabric.specs.declared.flow.Answer.{Answer}
 use Rattle.fabric.specs.declared.flow.Answer.TheVariants.{Idle, Empty, Moved}
-use Rattle.fabric.specs.declared.flow.Port.{Port}
 
 -- the number of each case, in the order in which the scope names them
 abbrev pub kind_of : Answer → ℕ
@@ -24,12 +23,9 @@ empty_with p Idle = false
 empty_with p (Empty other) = eqb other p
 empty_with p (Moved other cell) = false
 
-abbrev pub port : Answer → Port
-port a = record { answer = a }
+-- the answer of port p in a list of the ports' answers
+abbrev pub answer_of : List Answer → ℕ → Answer
+answer_of answers p = get_or answers p Idle
 
--- the answer of port p in a list of ports
-abbrev pub answer_of : List Port → ℕ → Answer
-answer_of ports p = (get_or ports p (port Idle)).answer
-
-abbrev pub all_idle : List Port
-all_idle = replicate most_ports (port Idle)
+abbrev pub all_idle : List Answer
+all_idle = replicate most_ports Idle

@@ -13,10 +13,8 @@ impl Fabric {
         ensures { result ≡ counted_of self boards.ports heads.ports n }
     {
         for p in 0..n {
-            let board = boards.ports[p];
-            let head = heads.ports[p];
-            self.boards[p] = board;
-            self.heads[p] = head;
+            self.boards[p] = boards.ports[p];
+            self.heads[p] = heads.ports[p];
         }
         self
     }

@@ -2,7 +2,7 @@
 // services of one slot do to them.
 #![tactic(auto)]
 
-use crate::flow::{Crosspoint, Queue};
+use crate::flow::{Answer, Crosspoint, Queue};
 use multiplexer::Multiplexer;
 use plan::range::{MOST_FLOWS, MOST_PORTS};
 
@@ -23,4 +23,11 @@ pub struct Fabric {
     pub crosspoints: [Crosspoint; MOST_FLOWS],
     pub boards: [Multiplexer; MOST_PORTS],
     pub heads: [Multiplexer; MOST_PORTS],
+}
+
+// The fabric after the services of one side's ports, and their answers.
+#[derive(Drop)]
+pub struct AfterServices {
+    pub fabric: Fabric,
+    pub answers: [Answer; MOST_PORTS],
 }

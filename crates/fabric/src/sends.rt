@@ -1,40 +1,18 @@
 // The head's half of a slot: each chosen flow sends a cell from its crosspoint.
 ghost use Rattle.std.specs.Prelude.{◌≡◌};
-ghost use Rattle.side.specs.Choices.{choices_in, CanChoose};
-ghost use Rattle.fabric.specs.Sends.{moved_up, send_of, sent_of};
+ghost use Rattle.side.specs.Choices.{CanChoose};
+ghost use Rattle.fabric.specs.Sends.{send_of, sent_of};
 
-use crate::Fabric;
-use crate::flow::{Answer, Crosspoint, Port};
+use crate::flow::{Answer, Crosspoint};
+use crate::{AfterServices, Fabric};
 use plan::range::MOST_PORTS;
-use side::choices::Turn;
 use side::places::flow_place;
 
-// What one head's service makes of its flow.
+// What one head's service makes of its flow: a Move without the queue, which a head does not touch.
 #[derive(Clone, Copy)]
 pub struct Send {
     pub point: Crosspoint,
-    pub port: Port,
-}
-
-// The fabric after the heads' services, and their answers.
-#[derive(Drop)]
-pub struct AfterSends {
-    pub fabric: Fabric,
-    pub ports: [Port; MOST_PORTS],
-}
-
-// The cells after the oldest one left.
-fn moved_up(point: Crosspoint) -> [u32; 2]
-    ensures { result ≡ moved_up point }
-{
-    let mut cells = point.cells;
-    if 1 < point.count {
-        cells[0] = cells[1];
-        cells[1] = 0;
-        return cells;
-    }
-    cells[0] = 0;
-    cells
+    pub answer: Answer,
 }
 
 // The oldest cell of the crosspoint of board i is sent, if there is one.
@@ -43,52 +21,36 @@ fn send_cell(point: Crosspoint, i: usize) -> Send
 {
     if point.count == 0 {
         return Send {
-            point: point,
-            port: Port {
-                answer: Answer::Empty(i),
-            },
+            point,
+            answer: Answer::Empty(i),
         };
     }
-    let cells = point.cells;
-    let cell = cells[0];
-    let left = moved_up(point);
     Send {
-        point: Crosspoint {
-            cells: left,
-            count: point.count - 1,
-        },
-        port: Port {
-            answer: Answer::Moved(i, cell),
-        },
+        point: point.without_oldest(),
+        answer: Answer::Moved(i, point.cells[0]),
     }
 }
 
 impl Fabric {
-    // The services of the heads below n.
-    pub fn sent(mut self, turns: [Turn; MOST_PORTS], n: usize) -> AfterSends
-        requires { CanChoose n (choices_in turns) }
-        ensures { result ≡ sent_of n (choices_in turns) self }
+    // The services of the heads below n. Not one loop with that of the boards: it reads no store and leaves the queues.
+    pub fn sent(mut self, choices: [Option<u8>; MOST_PORTS], n: usize) -> AfterServices
+        requires { CanChoose n choices }
+        ensures { result ≡ sent_of n choices self }
     {
-        let mut ports = [Port {
-            answer: Answer::Idle,
-        }; MOST_PORTS];
-        for j in 0..n {
-            let turn = turns[j];
-            if !turn.serves {
+        let mut answers = [Answer::Idle; MOST_PORTS];
+        for (j, choice) in choices[..n].iter().enumerate() {
+            let Some(other) = choice else {
                 continue;
-            }
-            let i = turn.other as usize;
+            };
+            let i = usize::from(*other);
             let k = flow_place(n, i, j);
-            let point = self.crosspoints[k];
-            let sent = send_cell(point, i);
-            let point_after = sent.point;
-            let port = sent.port;
-            self.crosspoints[k] = point_after;
-            ports[j] = port;
+            let sent = send_cell(self.crosspoints[k], i);
+            self.crosspoints[k] = sent.point;
+            answers[j] = sent.answer;
         }
-        AfterSends {
+        AfterServices {
             fabric: self,
-            ports: ports,
+            answers,
         }
     }
 }

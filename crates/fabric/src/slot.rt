@@ -2,8 +2,8 @@
 ghost use Rattle.std.specs.Prelude.{◌≡◌, length};
 ghost use Rattle.fabric.specs.Slot.{run_of, CanRun};
 
-use crate::Fabric;
-use crate::flow::Port;
+use crate::flow::Answer;
+use crate::{AfterServices, Fabric};
 use plan::range::MOST_PORTS;
 use side::choices::Side;
 
@@ -11,8 +11,8 @@ use side::choices::Side;
 #[derive(Drop)]
 pub struct AfterSlot {
     pub fabric: Fabric,
-    pub moves: [Port; MOST_PORTS],
-    pub sends: [Port; MOST_PORTS],
+    pub moves: [Answer; MOST_PORTS],
+    pub sends: [Answer; MOST_PORTS],
 }
 
 impl Fabric {
@@ -21,19 +21,19 @@ impl Fabric {
         requires { CanRun n depth (length store.now) boards heads self }
         ensures { result ≡ run_of n depth store.now boards heads self }
     {
-        let board_turns = boards.turns;
-        let head_turns = heads.turns;
         let counted = self.counted(boards, heads, n);
-        let after_moves = counted.moved(store, board_turns, n, depth);
-        let moved = after_moves.fabric;
-        let moves = after_moves.ports;
-        let after_sends = moved.sent(head_turns, n);
-        let sent = after_sends.fabric;
-        let sends = after_sends.ports;
+        let AfterServices {
+            fabric: moved,
+            answers: moves,
+        } = counted.moved(store, boards.choices, n, depth);
+        let AfterServices {
+            fabric: sent,
+            answers: sends,
+        } = moved.sent(heads.choices, n);
         AfterSlot {
             fabric: sent,
-            moves: moves,
-            sends: sends,
+            moves,
+            sends,
         }
     }
 }

@@ -9,13 +9,9 @@ use plan::range::MOST_FLOWS;
 fn flow_valid(queue: Queue, point: Crosspoint, depth: usize) -> bool
     ensures { result ≡ flow_valid depth queue point }
 {
-    if depth <= queue.place as usize {
-        return false;
-    }
-    if depth < queue.count as usize {
-        return false;
-    }
-    point.count <= CROSSPOINT_DEPTH
+    usize::from(queue.place) < depth
+        && usize::from(queue.count) <= depth
+        && point.count <= CROSSPOINT_DEPTH
 }
 
 // The queues and crosspoints of the flows below N x N.
@@ -28,12 +24,9 @@ pub fn flows_valid(
     requires { n ≤ most_ports }
     ensures { result ≡ flows_valid queues points n depth }
 {
-    for k in 0..n * n {
-        let queue = queues[k];
-        let point = points[k];
-        if !flow_valid(queue, point, depth) {
-            return false;
-        }
-    }
-    true
+    queues
+        .iter()
+        .zip(points.iter())
+        .take(n * n)
+        .all(|(queue, point)| flow_valid(*queue, *point, depth))
 }

@@ -11,22 +11,21 @@ use Rattle.planfile.proofs.ReadLaws.{accepted_plan}
 use Rattle.fabric.specs.Answer.{answer_of}
 use Rattle.fabric.specs.declared.flow.Answer.{Answer}
 use Rattle.fabric.specs.declared.flow.Answer.TheVariants.{Idle, Empty, Moved}
-use Rattle.fabric.specs.declared.flow.Port.{Port}
 use Rattle.fabric.proofs.NameLaws.{NamesPort}
 use Rattle.planpair.specs.Rates.{plan_rates}
 use Rattle.crossbar.specs.Start.{start_of}
 use Rattle.crossbar.specs.Step.{step_of}
 use Rattle.crossbar.specs.declared.state.Switch.{Switch}
 use Rattle.crossbar.proofs.AnswerLaws.{step_moves_name, step_sends_name}
-use Rattle.console.specs.Text.{decimal_of, HasRoom, Written}
-use Rattle.frame.specs.Printout.{input_name, output_name, names_of, header_of, choice_of, side_choices_of, slot_line_of, slot_lines_of, frame_printout_of, printout_of, header_room, slot_line_room, printout_room, Prints}
-use Rattle.console.proofs.DigitLaws.{digits_below}
+use Rattle.console.specs.Text.{decimal_of}
+use Rattle.frame.specs.Printout.{input_name, output_name, names_of, header_of, choice_of, side_choices_of, slot_line_of, slot_lines_of, frame_printout_of, printout_of, header_room, slot_line_room, printout_room}
+use Rattle.console.proofs.DigitLaws.{decimal_short}
 use Rattle.console.proofs.TextLaws.{refusal_short, either_short}
 use Rattle.console.proofs.TextBelowLaws.{below_short}
 
 -- the number of a port
 port_short : (p : ℕ) → p < most_ports → length (decimal_of p) ≤ 2
-port_short p l = digits_below 1 20 p (omega arith)
+port_short p l = decimal_short 2 p (omega arith) (omega arith) (omega arith)
 
 names_short : (side : List ℕ) (n : ℕ) → n ≤ most_ports → length (names_of side n) ≤ n * (length side + 2)
 names_short side n few =
@@ -42,8 +41,8 @@ choice_short Idle h = omega arith
 choice_short (Empty other) h = omega (arith, port_short other h)
 choice_short (Moved other cell) h = omega (arith, port_short other h)
 
-choices_short : (ports : List Port) (n : ℕ) → ((p : ℕ) → NamesPort (answer_of ports p)) → length (side_choices_of ports n) ≤ n * 3
-choices_short ports n named = below_short _ 3 n (λ p _. choice_short (answer_of ports p) (named p))
+choices_short : (answers : List Answer) (n : ℕ) → ((p : ℕ) → NamesPort (answer_of answers p)) → length (side_choices_of answers n) ≤ n * 3
+choices_short answers n named = below_short _ 3 n (λ p _. choice_short (answer_of answers p) (named p))
 
 slot_short : (s : Switch) (store : List ℕ) (n slot : ℕ) → n ≤ most_ports → slot < most_slots
     → length (slot_line_of slot (step_of s store).moves (step_of s store).sends n) ≤ slot_line_room
@@ -53,7 +52,7 @@ slot_short s store n slot few l =
     simp length-append
     (omega (
       arith,
-      digits_below 3 20 slot (omega arith),
+      decimal_short 4 slot (omega arith) (omega arith) (omega arith),
       choices_short r.moves n (step_moves_name s store),
       choices_short r.sends n (step_sends_name s store),
     ))
@@ -77,18 +76,10 @@ frame_short plan few l =
     (λ _. simp length-append (omega (arith, header_short n few, lines_short r.state store n 0 plan.frame few (omega arith))))
     (omega (arith, refusal_short r.verdict))
 
-printout_short : (file : List ℕ) → length (printout_of file) ≤ printout_room
+pub printout_short : (file : List ℕ) → length (printout_of file) ≤ printout_room
 unfolding printout_of
 printout_short file =
     let r = read_of file in
     either_short printout_room r.verdict _ _
     (λ e. let p = (accepted_plan file e).is_plan in frame_short r.plan p.few_ports p.few_slots)
     (omega (arith, refusal_short r.verdict))
-
--- a buffer of that many bytes has room for every printout, and holds one that was written at its start
-module _ (file before : List ℕ) (long : length before ≡ printout_room) where
-  pub printout_room_lem : HasRoom before 0 (printout_of file)
-  printout_room_lem = omega (arith, printout_short file)
-
-  pub prints : {after : List ℕ} {r : ℕ} → length after ≡ length before → Written before 0 (printout_of file) after r → Prints file before after r
-  prints same w = record { within = omega (arith, w.place, printout_short file); printed = w.bytes; kept = w.kept }

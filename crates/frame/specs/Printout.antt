@@ -2,7 +2,7 @@
 -- then a line a slot with the slot, the output chosen by each input, the input chosen by each output, "-" for idle. The
 -- header names the ports below N as shown; one space parts the fields and each line ends in LF. The program stops at the
 -- first refusal and prints "refused", a space and its number."
-use Rattle.std.specs.Prelude.{ℕ, zero, suc, ◌+◌, ◌*◌, ◌≤◌, List, [], ◌∷◌, ◌++◌, ◌≡◌, length, take, drop, replicate}
+use Rattle.std.specs.Prelude.{ℕ, zero, suc, ◌+◌, ◌*◌, List, [], ◌∷◌, ◌++◌, replicate}
 use Rattle.refusal.specs.Chain.{if_accepted}
 use Rattle.plan.specs.Range.{most_ports, most_slots}
 use Rattle.plan.specs.declared.Plan.{Plan}
@@ -10,12 +10,11 @@ use Rattle.planfile.specs.Read.{read_of}
 use Rattle.fabric.specs.Answer.{answer_of}
 use Rattle.fabric.specs.declared.flow.Answer.{Answer}
 use Rattle.fabric.specs.declared.flow.Answer.TheVariants.{Idle, Empty, Moved}
-use Rattle.fabric.specs.declared.flow.Port.{Port}
 use Rattle.planpair.specs.Rates.{plan_rates}
 use Rattle.crossbar.specs.Start.{start_of}
 use Rattle.crossbar.specs.Step.{step_of}
 use Rattle.crossbar.specs.declared.state.Switch.{Switch}
-use Rattle.console.specs.Text.{decimal_of}
+use Rattle.console.specs.Text.{decimal_of, field_of}
 use Rattle.console.specs.Refused.{line_end, refusal_line_of}
 use Rattle.console.specs.TextBelow.{text_below}
 
@@ -39,22 +38,18 @@ names_of side n = text_below (λ p. side ++ decimal_of p) n
 unfoldable pub header_of : ℕ → List ℕ
 header_of n = slot_name ++ names_of input_name n ++ names_of output_name n ++ line_end
 
--- the port that was chosen
-abbrev pub chosen_of : ℕ → List ℕ
-chosen_of other = 32 ∷ decimal_of other
-
--- "-" for idle
+-- the port that was chosen, "-" for idle
 abbrev pub choice_of : Answer → List ℕ
 choice_of Idle = 32 ∷ 45 ∷ []
-choice_of (Empty other) = chosen_of other
-choice_of (Moved other cell) = chosen_of other
+choice_of (Empty other) = field_of other
+choice_of (Moved other cell) = field_of other
 
 -- the choices of the ports below n
-abbrev pub side_choices_of : List Port → ℕ → List ℕ
-side_choices_of ports n = text_below (λ p. choice_of (answer_of ports p)) n
+abbrev pub side_choices_of : List Answer → ℕ → List ℕ
+side_choices_of answers n = text_below (λ p. choice_of (answer_of answers p)) n
 
 -- "a line a slot with the slot, the output chosen by each input, the input chosen by each output"
-unfoldable pub slot_line_of : ℕ → List Port → List Port → ℕ → List ℕ
+unfoldable pub slot_line_of : ℕ → List Answer → List Answer → ℕ → List ℕ
 slot_line_of slot boards heads n = decimal_of slot ++ side_choices_of boards n ++ side_choices_of heads n ++ line_end
 
 -- the lines of the slots from `slot` on, `left` of them: each step gets the state that the last one returned, and "the
@@ -95,10 +90,3 @@ slot_line_room = 4 + most_ports * 3 + most_ports * 3 + 1
 
 abbrev pub printout_room : ℕ
 printout_room = header_room + most_slots * slot_line_room
-
--- what `printout` ensures of the buffer that it is lent and of its answer r: the first r bytes are the printout of the file,
--- and the others are as they were
-pub record Prints (file before after : List ℕ) (r : ℕ) : Type 0 where
-  pub within : r ≤ length after
-  pub printed : take r after ≡ printout_of file
-  pub kept : drop r after ≡ drop r before

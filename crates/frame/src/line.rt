@@ -1,83 +1,73 @@
-// The lines of the printout. Each function writes into a buffer from the place `at` and answers the place behind.
-ghost use Rattle.std.specs.Prelude.{◌≤◌};
+// The lines of the printout. Each function puts its text behind what there is.
+ghost use Rattle.std.specs.Prelude.{◌≡◌, ◌+◌, ◌≤◌, ◌++◌, length};
+ghost use Rattle.arrayvec.specs.ArrayString.{array_string_len};
 ghost use Rattle.plan.specs.Range.{most_ports};
-ghost use Rattle.console.specs.Text.{HasRoom, Written};
-ghost use Rattle.frame.specs.Printout.{names_of, chosen_of, choice_of, side_choices_of, header_of, slot_line_of};
+ghost use Rattle.frame.specs.Printout.{names_of, choice_of, side_choices_of, header_of, slot_line_of, printout_room};
 
-use console::text::{number, put};
-use fabric::flow::{Answer, Port};
+use crate::room::Text;
+use console::text::{field, number};
+use fabric::flow::Answer;
 use plan::range::MOST_PORTS;
 
 // The names of the ports of one side.
-fn names(out: &mut [u8], from: usize, side: &[u8], n: usize) -> usize
-    requires { HasRoom out.old from (names_of side.now n) }
-    ensures { Written out.old from (names_of side.now n) out.new result }
+#[tactic(auto, using(console::proofs::TextBelowLaws::put_below))]
+fn names(out: &mut Text, side: &str, n: usize)
+    requires { array_string_len out.old + length (names_of side.now n) ≤ printout_room }
+    ensures { out.new.bytes ≡ out.old.bytes ++ names_of side.now n }
 {
-    let mut at = from;
     for port in 0..n {
-        at = put(out, at, side);
-        at = number(out, at, port as u64);
+        out.push_str(side);
+        number(out, port as u64);
     }
-    at
-}
-
-fn chosen(out: &mut [u8], at: usize, other: usize) -> usize
-    requires { HasRoom out.old at (chosen_of other) }
-    ensures { Written out.old at (chosen_of other) out.new result }
-{
-    let next = put(out, at, b" ");
-    number(out, next, other as u64)
 }
 
 // The port that another one chose.
-fn choice(out: &mut [u8], at: usize, port: Port) -> usize
-    requires { HasRoom out.old at (choice_of port.answer) }
-    ensures { Written out.old at (choice_of port.answer) out.new result }
+fn choice(out: &mut Text, answer: Answer)
+    requires { array_string_len out.old + length (choice_of answer) ≤ printout_room }
+    ensures { out.new.bytes ≡ out.old.bytes ++ choice_of answer }
 {
-    let answer = port.answer;
     match answer {
-        Answer::Idle => put(out, at, b" -"),
-        Answer::Empty(other) => chosen(out, at, other),
-        Answer::Moved(other, _) => chosen(out, at, other),
+        Answer::Idle => out.push_str(" -"),
+        Answer::Empty(other) => field(out, other as u64),
+        Answer::Moved(other, _) => field(out, other as u64),
     }
 }
 
 // The choices of the ports of one side.
-fn choices(out: &mut [u8], from: usize, ports: [Port; MOST_PORTS], n: usize) -> usize
-    requires { (n ≤ most_ports) × HasRoom out.old from (side_choices_of ports n) }
-    ensures { Written out.old from (side_choices_of ports n) out.new result }
+#[tactic(auto, using(console::proofs::TextBelowLaws::put_below))]
+fn choices(out: &mut Text, answers: [Answer; MOST_PORTS], n: usize)
+    requires { (n ≤ most_ports) × (array_string_len out.old + length (side_choices_of answers n) ≤ printout_room) }
+    ensures { out.new.bytes ≡ out.old.bytes ++ side_choices_of answers n }
 {
-    let mut at = from;
-    for p in 0..n {
-        let port = ports[p];
-        at = choice(out, at, port);
+    for &answer in &answers[..n] {
+        choice(out, answer);
     }
-    at
 }
 
-pub fn header(out: &mut [u8], at: usize, n: usize) -> usize
-    requires { HasRoom out.old at (header_of n) }
-    ensures { Written out.old at (header_of n) out.new result }
+#[tactic(auto, unfolding(crate::specs::Printout::header_of))]
+pub fn header(out: &mut Text, n: usize)
+    requires { array_string_len out.old + length (header_of n) ≤ printout_room }
+    ensures { out.new.bytes ≡ out.old.bytes ++ header_of n }
 {
-    let boards_at = put(out, at, b"slot");
-    let heads_at = names(out, boards_at, b" in", n);
-    let end = names(out, heads_at, b" out", n);
-    put(out, end, b"\n")
+    out.push_str("slot");
+    names(out, " in", n);
+    names(out, " out", n);
+    out.push_str("\n");
 }
 
+#[tactic(auto, unfolding(crate::specs::Printout::slot_line_of))]
 pub fn slot_line(
-    out: &mut [u8],
-    at: usize,
+    out: &mut Text,
     slot: u32,
-    boards: [Port; MOST_PORTS],
-    heads: [Port; MOST_PORTS],
+    boards: [Answer; MOST_PORTS],
+    heads: [Answer; MOST_PORTS],
     n: usize,
-) -> usize
-    requires { (n ≤ most_ports) × HasRoom out.old at (slot_line_of slot boards heads n) }
-    ensures { Written out.old at (slot_line_of slot boards heads n) out.new result }
+)
+    requires { (n ≤ most_ports) × (array_string_len out.old + length (slot_line_of slot boards heads n) ≤ printout_room) }
+    ensures { out.new.bytes ≡ out.old.bytes ++ slot_line_of slot boards heads n }
 {
-    let boards_at = number(out, at, slot as u64);
-    let heads_at = choices(out, boards_at, boards, n);
-    let end = choices(out, heads_at, heads, n);
-    put(out, end, b"\n")
+    number(out, u64::from(slot));
+    choices(out, boards, n);
+    choices(out, heads, n);
+    out.push_str("\n");
 }

@@ -4,13 +4,14 @@
 ghost use Rattle.std.specs.Prelude.{◌≡◌, length};
 ghost use Rattle.frame.specs.Input.{most_input};
 
-use crate::printout::{PRINTOUT_ROOM, printout};
+use crate::printout::printout;
 use console::failure::fail;
-use console::input::{Input, read_input};
+use console::input::read_input;
 use planfile::LONGEST_FILE;
 
 mod line;
 mod printout;
+mod room;
 
 // One byte more than the longest plan file has: the bytes past these don't change the printout
 // (proofs/PrintoutLaws.antt).
@@ -25,15 +26,11 @@ fn input_room() -> [u8; MOST_INPUT]
 fn main(rt: HostRuntime) {
     let mut file = input_room();
     let len = match read_input(&mut rt.stdin(), &mut file) {
-        Input::Bytes(len) => len,
-        Input::Failed(error) => {
-            fail(&rt, "standard input", error);
-            return;
-        }
+        Ok(len) => len,
+        Err(error) => return fail(&rt, "standard input", error),
     };
-    let mut out = [0u8; PRINTOUT_ROOM];
-    let count = printout(&file[..len], &mut out);
-    if let Err(error) = rt.write_all(&out[..count]) {
+    let text = printout(&file[..len]);
+    if let Err(error) = rt.write_all(text.as_bytes()) {
         fail(&rt, "standard output", error);
     }
 }

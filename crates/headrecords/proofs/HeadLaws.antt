@@ -4,14 +4,13 @@ use mathlib.Core.Path.{◌≡◌, refl, ap, ◌∙◌}
 use mathlib.Core.List.{List}
 use native.Mathlib.Omega.{arith}
 use lib.ListN.{length, get_or}
+use Rattle.std.specs.Prelude.{Option, Some, None}
 use Rattle.plan.specs.Range.{most_flows}
 use Rattle.plan.specs.Lines.{flow_of}
 use Rattle.planpair.specs.Rates.{plan_rates}
 use Rattle.multiplexer.specs.Choose.{choose_of}
 use Rattle.multiplexer.specs.Serve.{serve_of}
 use Rattle.multiplexer.specs.Window.{column_of}
-use Rattle.multiplexer.specs.declared.Choice.{Choice}
-use Rattle.multiplexer.specs.declared.Choice.TheVariants.{Idle, Flow}
 use Rattle.multiplexer.specs.declared.Multiplexer.{Multiplexer}
 use Rattle.multiplexer.proofs.PortLaws.{column_length}
 use Rattle.meter.specs.Record.{entry_of, next_slot}
@@ -46,16 +45,16 @@ module _ {u : Switch} {store : List ℕ} (ok : Sound u store) (lent : List ℕ) 
   points_full : length (slot_moves u lent).crosspoints ≡ most_flows
   points_full = (moves_length n u.depth lent (board_choices u) u.fabric.queues u.fabric.crosspoints n).points_kept ∙ ok.points_size
 
-  answers : entry_for (answer_of (slot_sends u lent).ports j) ≡ entry_of (choice_at (head_choices u) j)
+  answers : entry_for (answer_of (slot_sends u lent).answers j) ≡ entry_of (choice_at (head_choices u) j)
   answers = go (choice_at (head_choices u) j) refl
     where
-      go : (c : Choice) → choice_at (head_choices u) j ≡ c → entry_for (answer_of (slot_sends u lent).ports j) ≡ entry_of c
-      go Idle e = ap entry_for (sends_answer_idle n (head_choices u) (slot_moves u lent).crosspoints j hj e)
-      go (Flow i) e =
+      go : (c : Option ℕ) → choice_at (head_choices u) j ≡ c → entry_for (answer_of (slot_sends u lent).answers j) ≡ entry_of c
+      go None e = ap entry_for (sends_answer_idle n (head_choices u) (slot_moves u lent).crosspoints j hj e)
+      go (Some i) e =
           ap entry_for (sends_served n (head_choices u) (slot_moves u lent).crosspoints (heads_can ok) points_full i j hj e).answer
-          ∙ send_case (λ r. entry_for r.port.answer ≡ i) i (get_or (slot_moves u lent).crosspoints (flow_of n i j) no_point) (λ _. refl) (λ _. refl)
+          ∙ send_case (λ r. entry_for r.answer ≡ i) i (get_or (slot_moves u lent).crosspoints (flow_of n i j) no_point) (λ _. refl) (λ _. refl)
 
-  pub head_answers : entry_for (answer_of (slot_sends u lent).ports j) ≡ entry_of (serve_of (head_at u j) column u.running.frame u.slot).choice
+  pub head_answers : entry_for (answer_of (slot_sends u lent).answers j) ≡ entry_of (serve_of (head_at u j) column u.running.frame u.slot).choice
   head_answers = answers ∙ ap entry_of chooses
 
   pub head_after_lem : head_at (after_slot u lent) j ≡ (serve_of (head_at u j) column u.running.frame u.slot).port

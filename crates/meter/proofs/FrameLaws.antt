@@ -8,6 +8,7 @@ use native.Mathlib.Omega.{arith}
 use lib.Dec.{eqb}
 use lib.ListN.{length, get_or}
 use borrow.Author.Tests.{eqb-true, eqb-false, ne_eqb}
+use Rattle.std.specs.Prelude.{Option, Some, None}
 use Rattle.plan.specs.Range.{most_ports}
 use Rattle.plan.specs.Below.{sum_below}
 use Rattle.multiplexer.specs.Choose.{choose_of}
@@ -15,8 +16,6 @@ use Rattle.multiplexer.specs.Count.{services_of, counts_after}
 use Rattle.multiplexer.specs.Frame.{counts_at, choice_at, services_before}
 use Rattle.multiplexer.specs.Serve.{serve_of}
 use Rattle.multiplexer.specs.Window.{Fits, FrameStart, WindowRule}
-use Rattle.multiplexer.specs.declared.Choice.{Choice}
-use Rattle.multiplexer.specs.declared.Choice.TheVariants.{Idle, Flow}
 use Rattle.multiplexer.specs.declared.Multiplexer.{Multiplexer}
 use Rattle.multiplexer.proofs.CountLaws.{count_length, cleared_starts}
 use Rattle.multiplexer.proofs.FrameLaws.{counts_first, counts_next}
@@ -28,9 +27,9 @@ use Rattle.meter.proofs.PaceLaws.{pace_early, pace_late}
 use Rattle.meter.proofs.BoundLaws.{Near}
 
 -- a flow's services in an entry are those of the choice
-entry_services : (c : Choice) (f : ℕ) → f < most_ports → service_in f (entry_of c) ≡ services_of c f
-entry_services Idle f l = rw (ne_eqb idle_slot f (λ e. omega arith)) refl
-entry_services (Flow g) f l = refl
+entry_services : (c : Option ℕ) (f : ℕ) → f < most_ports → service_in f (entry_of c) ≡ services_of c f
+entry_services None f l = rw (ne_eqb idle_slot f (λ e. omega arith)) refl
+entry_services (Some g) f l = refl
 
 module _ (rs : List ℕ) (T : ℕ) (fits : Fits rs T) (rule : (ks : List ℕ) → FrameStart ks (length rs) → WindowRule rs ks T) (f : ℕ) (below : f < length rs) where
   abbrev a : ℕ
@@ -84,7 +83,7 @@ module _ (rs : List ℕ) (T : ℕ) (fits : Fits rs T) (rule : (ks : List ℕ) �
       ≡ services_of (choice_at rs ks T t) f + sum_below (at (record_from (serve_of m rs T t).port rs T (next_slot T t) slots) f) p
   next_services m ks t slots p e =
       let entry : service_in f (entry_of (choose_of rs m.served T t)) ≡ services_of (choice_at rs ks T t) f =
-      ap (λ (c : Choice). service_in f (entry_of c)) (choice_is m ks t e) ∙ entry_services (choice_at rs ks T t) f (omega (arith, fits.few_flows)) in
+      ap (λ (c : Option ℕ). service_in f (entry_of c)) (choice_is m ks t e) ∙ entry_services (choice_at rs ks T t) f (omega (arith, fits.few_flows)) in
       ap (λ (l : List ℕ). sum_below (at l f) (suc p)) (record_next m rs T t slots)
       ∙ cover_next f (entry_of (choose_of rs m.served T t)) (record_from (serve_of m rs T t).port rs T (next_slot T t) slots) p
       ∙ ap (λ (x : ℕ). x + sum_below (at (record_from (serve_of m rs T t).port rs T (next_slot T t) slots) f) p) entry

@@ -1,16 +1,14 @@
 -- The record of a port that is served by one plan from a frame's start on.
-use Rattle.std.specs.Prelude.{ℕ, zero, suc, ◌+◌, ◌≡◌, cond, List, [], ◌∷◌, eqb, length}
+use Rattle.std.specs.Prelude.{ℕ, zero, suc, ◌+◌, ◌≡◌, cond, List, [], ◌∷◌, eqb, length, Option, Some, None}
 use Rattle.multiplexer.specs.Serve.{serve_of}
 use Rattle.multiplexer.specs.Window.{FrameStart}
-use Rattle.multiplexer.specs.declared.Choice.{Choice}
-use Rattle.multiplexer.specs.declared.Choice.TheVariants.{Idle, Flow}
 use Rattle.multiplexer.specs.declared.Multiplexer.{Multiplexer}
 use Rattle.meter.specs.Cover.{idle_slot}
 
 -- "which flow an output served, one 16-bit number a slot, 65,535 for idle"
-abbrev pub entry_of : Choice → ℕ
-entry_of Idle = idle_slot
-entry_of (Flow f) = f
+abbrev pub entry_of : Option ℕ → ℕ
+entry_of None = idle_slot
+entry_of (Some f) = f
 
 -- the slot after slot t of a frame of T: "At the end of slot T − 1 the slot number .. return to 0"
 abbrev pub next_slot : ℕ → ℕ → ℕ

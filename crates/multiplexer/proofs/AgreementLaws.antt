@@ -6,10 +6,9 @@ use mathlib.Core.List.{List}
 use native.Mathlib.Nat.{mul-le-mul}
 use native.Mathlib.Omega.{arith}
 use lib.ListN.{get_or}
+use Rattle.std.specs.Prelude.{Option, Some, None}
 use Rattle.multiplexer.specs.Choose.{rate_at, eligible_at, deadline_at, goes_before_choice, better, best_of, flows_of, choose_of, IsChoice}
 use Rattle.multiplexer.specs.Deadlines.{table_frame, TableRule, read_at, reads_before, best_read, InTable, Agrees}
-use Rattle.multiplexer.specs.declared.Choice.{Choice}
-use Rattle.multiplexer.specs.declared.Choice.TheVariants.{Idle, Flow}
 use Rattle.multiplexer.proofs.ChoiceLaws.{eligible_true, best_is}
 
 module _ (entries : List ℕ) (rule : TableRule entries) (rs ks : List ℕ) (t : ℕ) (in_table : InTable rs t) where
@@ -26,21 +25,21 @@ module _ (entries : List ℕ) (rule : TableRule entries) (rs ks : List ℕ) (t :
       rule.entry a (k + 1) due.0 (in_table.rates f l) (omega arith) (omega (arith, due.0, due.1, early))
 
   -- so it goes before the same choices
-  before_is : (n : ℕ) (c : Choice) → n < flows_of rs → may n ≡ true → IsChoice rs ks table_frame t n c
+  before_is : (n : ℕ) (c : Option ℕ) → n < flows_of rs → may n ≡ true → IsChoice rs ks table_frame t n c
       → reads_before entries rs ks n c ≡ goes_before_choice rs ks table_frame n c
-  before_is n Idle l e c = refl
-  before_is n (Flow g) l e c = rw (read_is n l e, read_is g (omega (arith, c.below)) c.may) refl
+  before_is n None l e c = refl
+  before_is n (Some g) l e c = rw (read_is n l e, read_is g (omega (arith, c.below)) c.may) refl
 
   agree : (n : ℕ) → n ≤ flows_of rs → best_read entries rs ks t n ≡ best_of rs ks table_frame t n
   unfolding best_read best_of better
   agree zero l = refl
   agree (suc n) l = rw (agree n (omega arith)) (go (may n) refl)
     where
-      c : Choice
+      c : Option ℕ
       c = best_of rs ks table_frame t n
 
-      go : (b : Bool) → may n ≡ b → cond (may n && reads_before entries rs ks n c) (Flow n) c ≡ cond (may n && goes_before_choice rs ks table_frame n c) (Flow n) c
-      go true e = ap (λ (x : Bool). cond (may n && x) (Flow n) c) (before_is n c (omega arith) e (best_is rs ks table_frame t n))
+      go : (b : Bool) → may n ≡ b → cond (may n && reads_before entries rs ks n c) (Some n) c ≡ cond (may n && goes_before_choice rs ks table_frame n c) (Some n) c
+      go true e = ap (λ (x : Bool). cond (may n && x) (Some n) c) (before_is n c (omega arith) e (best_is rs ks table_frame t n))
       go false e = rw e refl
 
 -- "With T = 64 the choice reads the table and agrees with the formula choice for all rates to 64, counts to the rate and slots

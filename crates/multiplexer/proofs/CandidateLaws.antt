@@ -8,6 +8,7 @@ use native.Mathlib.Omega.{arith}
 use lib.Dec.{ltb}
 use lib.ListN.{get_or}
 use borrow.Author.Tests.{ltb-true, ltb-false, lt-ltb, le-ltb}
+use Rattle.std.specs.Prelude.{Option, Some, None}
 use Rattle.multiplexer.specs.Choose.{eligible, deadline, rate_at, eligible_at, deadline_at, goes_before_choice, better}
 use Rattle.multiplexer.specs.Candidate.{never, most_rate, rank_of, Soonest, or_flow}
 use Rattle.multiplexer.proofs.RoundLaws.{quotient_rounded}
@@ -15,8 +16,6 @@ use Rattle.multiplexer.proofs.RankLaws.{rank_tells, rank_eligible, rank_never}
 use Rattle.multiplexer.proofs.NumberLaws.{number_of}
 use Rattle.multiplexer.proofs.ChoiceLaws.{is_eligible, ineligible}
 use Rattle.multiplexer.specs.declared.Candidate.{Candidate}
-use Rattle.multiplexer.specs.declared.Choice.{Choice}
-use Rattle.multiplexer.specs.declared.Choice.TheVariants.{Idle, Flow}
 
 -- what the tests of a flow make of it
 module _ (a k T t : ℕ) (told_apart : deadline a k T < never) (fits : a ≤ most_rate) where
@@ -46,35 +45,35 @@ module _ (c : Candidate) (f d a : ℕ) where
   or_flow_changes l = rw (lt-ltb (rank_of d a) c.rank l) refl
 
 module _ (rs ks : List ℕ) (T : ℕ) where
-  -- `Idle` is kept as a flow with the highest rate that is not eligible
-  abbrev deadline_of : Choice → ℕ
-  deadline_of Idle = never
-  deadline_of (Flow f) = deadline_at rs ks T f
+  -- `None` is kept as a flow with the highest rate that is not eligible
+  abbrev deadline_of : Option ℕ → ℕ
+  deadline_of None = never
+  deadline_of (Some f) = deadline_at rs ks T f
 
-  abbrev rate_of : Choice → ℕ
-  rate_of Idle = most_rate
-  rate_of (Flow f) = rate_at rs f
+  abbrev rate_of : Option ℕ → ℕ
+  rate_of None = most_rate
+  rate_of (Some f) = rate_at rs f
 
   -- a choice's number with its rank
-  abbrev pub candidate : Choice → Candidate
+  abbrev pub candidate : Option ℕ → Candidate
   candidate c = record { flow = number_of c; rank = rank_of (deadline_of c) (rate_of c) }
 
   -- the code keeps choice c as b
-  pub record Kept (b : Candidate) (c : Choice) : Type 0 where
+  pub record Kept (b : Candidate) (c : Option ℕ) : Type 0 where
     pub is : b ≡ candidate c
     pub within : rank_of (deadline_of c) (rate_of c) ≤ rank_of never most_rate
     pub fits : rate_of c ≤ most_rate
 
-  pub kept_none : Kept (candidate Idle) Idle
+  pub kept_none : Kept (candidate None) None
   kept_none = record { is = refl; within = omega arith; fits = omega arith }
 
   -- an eligible flow goes before a choice if its rank is smaller
-  rank_choice : (n : ℕ) (c : Choice) → deadline_at rs ks T n < never → rate_at rs n ≤ most_rate → rate_of c ≤ most_rate
+  rank_choice : (n : ℕ) (c : Option ℕ) → deadline_at rs ks T n < never → rate_at rs n ≤ most_rate → rate_of c ≤ most_rate
       → ltb (rank_of (deadline_at rs ks T n) (rate_at rs n)) (rank_of (deadline_of c) (rate_of c)) ≡ goes_before_choice rs ks T n c
-  rank_choice n Idle told_apart fits _ = lt-ltb _ _ (rank_eligible (deadline_at rs ks T n) (rate_at rs n) told_apart)
-  rank_choice n (Flow f) told_apart fits kept = rank_tells (deadline_at rs ks T n) (rate_at rs n) (deadline_at rs ks T f) (rate_at rs f) fits kept
+  rank_choice n None told_apart fits _ = lt-ltb _ _ (rank_eligible (deadline_at rs ks T n) (rate_at rs n) told_apart)
+  rank_choice n (Some f) told_apart fits kept = rank_tells (deadline_at rs ks T n) (rate_at rs n) (deadline_at rs ks T f) (rate_at rs f) fits kept
 
-  module _ (n d : ℕ) (b : Candidate) (c : Choice) (kept : Kept b c) where
+  module _ (n d : ℕ) (b : Candidate) (c : Option ℕ) (kept : Kept b c) where
     kept_stays : rank_of (deadline_of c) (rate_of c) ≤ rank_of d (rate_at rs n) → Kept (or_flow b n d (rate_at rs n)) c
     kept_stays l =
         record {
@@ -84,7 +83,7 @@ module _ (rs ks : List ℕ) (T : ℕ) where
         }
 
     kept_changes : d ≡ deadline_at rs ks T n → rate_at rs n ≤ most_rate → rank_of d (rate_at rs n) < rank_of (deadline_of c) (rate_of c)
-        → Kept (or_flow b n d (rate_at rs n)) (Flow n)
+        → Kept (or_flow b n d (rate_at rs n)) (Some n)
     kept_changes is fits l =
         record {
           is = or_flow_changes b n d (rate_at rs n) (rw kept.is l) ∙ (rw is refl);
@@ -101,7 +100,7 @@ module _ (rs ks : List ℕ) (T : ℕ) where
         told is = rw is (rank_choice n c s.told_apart s.fits kept.fits)
 
         go : (x y : Bool) → eligible_at rs ks T t n ≡ x → goes_before_choice rs ks T n c ≡ y
-            → Kept (or_flow b n d (rate_at rs n)) (cond (x && y) (Flow n) c)
+            → Kept (or_flow b n d (rate_at rs n)) (cond (x && y) (Some n) c)
         go true true may first = let is : d ≡ deadline_at rs ks T n = s.is ∙ (rw may refl) in kept_changes is s.fits (ltb-true _ _ (told is ∙ first))
         go true false may first = let is : d ≡ deadline_at rs ks T n = s.is ∙ (rw may refl) in kept_stays (ltb-false _ _ (told is ∙ first))
         go false y out first =

@@ -10,26 +10,25 @@ use lib.Dec.{eqb}
 use lib.ListN.{length, get_or, set}
 use lib.Seq.{get_or-set_same, get_or-set_other, ext_get_or}
 use borrow.Author.Tests.{lt-ltb, le-ltb, eq-eqb, ne_eqb}
+use Rattle.std.specs.Prelude.{Option, Some, None}
 use Rattle.plan.specs.Range.{most_ports}
 use Rattle.plan.proofs.BelowLaws.{lt_or_le, below_or_last}
 use Rattle.multiplexer.specs.Choose.{choose_of, flows_of, IsChoice}
 use Rattle.multiplexer.specs.Count.{one_more, counts_after}
 use Rattle.multiplexer.specs.Candidate.{choice_of}
-use Rattle.multiplexer.specs.declared.Choice.{Choice}
-use Rattle.multiplexer.specs.declared.Choice.TheVariants.{Idle, Flow}
 use Rattle.multiplexer.proofs.ChoiceLaws.{choose_is}
 use Rattle.multiplexer.proofs.CountLaws.{count_idle, count_length, count_other}
 
 -- the number of a choice
-abbrev pub number_of : Choice → ℕ
-number_of Idle = most_ports
-number_of (Flow f) = f
+abbrev pub number_of : Option ℕ → ℕ
+number_of None = most_ports
+number_of (Some f) = f
 
-pub flow_choice : (f : ℕ) → f < most_ports → choice_of f ≡ Flow f
+pub flow_choice : (f : ℕ) → f < most_ports → choice_of f ≡ Some f
 unfolding choice_of
 flow_choice f l = simp (lt-ltb f most_ports l)
 
-pub idle_choice : (f : ℕ) → most_ports ≤ f → choice_of f ≡ Idle
+pub idle_choice : (f : ℕ) → most_ports ≤ f → choice_of f ≡ None
 unfolding choice_of
 idle_choice f l = simp (le-ltb f most_ports l)
 
@@ -37,9 +36,9 @@ idle_choice f l = simp (le-ltb f most_ports l)
 pub number_chosen : (rs ks : List ℕ) (T t : ℕ) → choice_of (number_of (choose_of rs ks T t)) ≡ choose_of rs ks T t
 number_chosen rs ks T t = go (choose_of rs ks T t) (choose_is rs ks T t)
   where
-    go : (c : Choice) → IsChoice rs ks T t (flows_of rs) c → choice_of (number_of c) ≡ c
-    go Idle none = idle_choice most_ports (omega arith)
-    go (Flow f) c = flow_choice f (omega (arith, c.below))
+    go : (c : Option ℕ) → IsChoice rs ks T t (flows_of rs) c → choice_of (number_of c) ≡ c
+    go None none = idle_choice most_ports (omega arith)
+    go (Some f) c = flow_choice f (omega (arith, c.below))
 
 module _ (ks : List ℕ) (flow : ℕ) where
   -- the count of flow g after the service
@@ -54,7 +53,7 @@ module _ (ks : List ℕ) (flow : ℕ) where
       (λ (b : most_ports ≤ flow). rw (idle_choice flow b, count_idle ks, ne_eqb g flow (λ e. omega arith)) refl)
       (lt_or_le flow most_ports)
     where
-      chosen : flow < most_ports → Dec (g ≡ flow) → get_or (counts_after ks (Flow flow)) g 0 ≡ count_of_flow g
+      chosen : flow < most_ports → Dec (g ≡ flow) → get_or (counts_after ks (Some flow)) g 0 ≡ count_of_flow g
       chosen b (yes e) = rw (eq-eqb g flow e, e) (get_or-set_same ks flow _ 0 (omega (arith, full)))
       chosen b (no ne) = rw (ne_eqb g flow ne) (count_other ks flow g ne)
 

@@ -2,14 +2,14 @@
 use Prim.Native.Nat.{ℕ, ◌+◌}
 use mathlib.Core.Path.{◌≡◌, refl}
 use borrow.Author.Tests.{eq-eqb, ne_eqb}
+use Rattle.std.specs.Prelude.{Option}
 use Rattle.multiplexer.specs.Count.{count_of, end_frame_of}
 use Rattle.multiplexer.specs.Serve.{served_with}
-use Rattle.multiplexer.specs.declared.Choice.{Choice}
 use Rattle.multiplexer.specs.declared.Multiplexer.{Multiplexer}
 use Rattle.multiplexer.specs.declared.Served.{Served}
 
 module _
-    (m : Multiplexer) (n frame slot : ℕ) {c choice : Choice} {counted : Multiplexer} (counts : counted ≡ count_of m c) (chosen : choice ≡ c)
+    (m : Multiplexer) (n frame slot : ℕ) {c choice : Option ℕ} {counted : Multiplexer} (counts : counted ≡ count_of m c) (chosen : choice ≡ c)
   where
     pub served_last : {port : Multiplexer} → slot + 1 ≡ frame → port ≡ end_frame_of counted n
         → ◌≡◌ {A = Served} (record { port = port; choice = choice }) (served_with m c n frame slot)

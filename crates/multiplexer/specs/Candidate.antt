@@ -1,16 +1,14 @@
 -- For the code, which goes through the flows and keeps the number of the choice so far with its rank.
-use Rattle.std.specs.Prelude.{ℕ, ◌+◌, ◌-◌, ◌*◌, ◌<◌, ◌≤◌, ◌≡◌, cond, ltb}
+use Rattle.std.specs.Prelude.{ℕ, ◌+◌, ◌-◌, ◌*◌, ◌<◌, ◌≤◌, ◌≡◌, cond, ltb, Option, Some, None}
 use Rattle.plan.specs.Range.{most_ports}
 use Rattle.multiplexer.specs.Choose.{eligible, deadline}
 use Rattle.multiplexer.specs.declared.Candidate.{Candidate}
-use Rattle.multiplexer.specs.declared.Choice.{Choice}
-use Rattle.multiplexer.specs.declared.Choice.TheVariants.{Idle, Flow}
 
--- 2 ^ 48 − 1: the deadline of `Idle`, and of a flow that is not eligible
+-- 2 ^ 48 − 1: the deadline of `None`, and of a flow that is not eligible
 abbrev pub never : ℕ
 never = 281474976710655
 
--- 2 ^ 16 − 1: the rate of `Idle`, since no flow has a larger one
+-- 2 ^ 16 − 1: the rate of `None`, since no flow has a larger one
 abbrev pub most_rate : ℕ
 most_rate = 65535
 
@@ -30,6 +28,6 @@ pub record Soonest (a k T t r : ℕ) : Type 0 where
 unfoldable pub or_flow : Candidate → ℕ → ℕ → ℕ → Candidate
 or_flow c f d a = cond (ltb (rank_of d a) c.rank) (record { flow = f; rank = rank_of d a }) c
 
--- the choice that a number stands for: a flow's its `Flow`, and one past all flows `Idle`
-unfoldable pub choice_of : ℕ → Choice
-choice_of f = cond (ltb f most_ports) (Flow f) Idle
+-- the choice that a number stands for: a flow's its `Some`, and one past all flows `None`
+unfoldable pub choice_of : ℕ → Option ℕ
+choice_of f = cond (ltb f most_ports) (Some f) None

@@ -1,11 +1,9 @@
 -- Request L7: "for a = 1 to 64 and s = 1 to a, in that order, s × 64 / a rounded up, one a line. That output is the constant
 -- table in the code, and its rule holds at every entry. With T = 64 the choice reads the table and agrees with the formula
 -- choice for all rates to 64, counts to the rate and slots to 63."
-use Rattle.std.specs.Prelude.{ℕ, zero, suc, ◌+◌, ◌-◌, ◌*◌, ◌<◌, ◌≤◌, ◌≡◌, Bool, true, cond, ◌&&◌, List, length, get_or}
+use Rattle.std.specs.Prelude.{ℕ, zero, suc, ◌+◌, ◌-◌, ◌*◌, ◌<◌, ◌≤◌, ◌≡◌, Bool, true, cond, ◌&&◌, List, length, get_or, Option, Some, None}
 use Rattle.plan.specs.Below.{sum_below}
 use Rattle.multiplexer.specs.Choose.{rounded_up, rate_at, eligible_at, goes_before, flows_of, choose_of}
-use Rattle.multiplexer.specs.declared.Choice.{Choice}
-use Rattle.multiplexer.specs.declared.Choice.TheVariants.{Idle, Flow}
 
 -- how many slots the frames have that the table is for, and its highest rate
 abbrev pub table_frame : ℕ
@@ -33,18 +31,18 @@ abbrev pub read_at : List ℕ → List ℕ → List ℕ → ℕ → ℕ
 read_at table rs ks f = get_or table (place_of (rate_at rs f) (get_or ks f 0 + 1)) 0
 
 -- flow f goes before a choice among lower numbers, both with deadlines that are read
-abbrev pub reads_before : List ℕ → List ℕ → List ℕ → ℕ → Choice → Bool
-reads_before table rs ks f Idle = true
-reads_before table rs ks f (Flow g) = goes_before (read_at table rs ks f) (rate_at rs f) (read_at table rs ks g) (rate_at rs g)
+abbrev pub reads_before : List ℕ → List ℕ → List ℕ → ℕ → Option ℕ → Bool
+reads_before table rs ks f None = true
+reads_before table rs ks f (Some g) = goes_before (read_at table rs ks f) (rate_at rs f) (read_at table rs ks g) (rate_at rs g)
 
 -- the choice among the flows below n, with deadlines that are read
-unfoldable pub best_read : List ℕ → List ℕ → List ℕ → ℕ → ℕ → Choice
-best_read table rs ks t zero = Idle
+unfoldable pub best_read : List ℕ → List ℕ → List ℕ → ℕ → ℕ → Option ℕ
+best_read table rs ks t zero = None
 best_read table rs ks t (suc n) =
     let c = best_read table rs ks t n in
-    cond (eligible_at rs ks table_frame t n && reads_before table rs ks n c) (Flow n) c
+    cond (eligible_at rs ks table_frame t n && reads_before table rs ks n c) (Some n) c
 
-abbrev pub choose_read : List ℕ → List ℕ → List ℕ → ℕ → Choice
+abbrev pub choose_read : List ℕ → List ℕ → List ℕ → ℕ → Option ℕ
 choose_read table rs ks t = best_read table rs ks t (flows_of rs)
 
 -- "for all rates to 64, counts to the rate and slots to 63". The counts may be any: a flow whose count is its rate, or above

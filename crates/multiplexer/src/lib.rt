@@ -31,15 +31,6 @@ const NEVER: u64 = 281474976710655;
 // How many ranks there are for one deadline: one for each rate.
 const RATES: u64 = 65536;
 
-// What a slot is used for.
-#[derive(Clone, Copy)]
-pub enum Choice {
-    // no flow is served
-    Idle,
-    // the flow of this number is served
-    Flow(usize),
-}
-
 // How often each flow of the port was served in this frame.
 #[repr(C)]
 #[derive(Clone, Copy)]
@@ -47,11 +38,11 @@ pub struct Multiplexer {
     pub served: [u16; MOST_PORTS],
 }
 
-// A port after a slot, and what it used the slot for.
+// A port after a slot, and the number of the flow that the slot was used for, if any.
 #[derive(Clone, Copy)]
 pub struct Served {
     pub port: Multiplexer,
-    pub choice: Choice,
+    pub choice: Option<usize>,
 }
 
 // The flow chosen among those looked at so far, or NO_FLOW, and its rank. The number has a count's width, so that
@@ -150,13 +141,11 @@ impl Candidate {
 }
 
 // The choice that a number stands for.
-fn choice_of(flow: u16) -> Choice
+#[tactic(auto, unfolding(crate::specs::Candidate::choice_of))]
+fn choice_of(flow: u16) -> Option<usize>
     ensures { result ≡ choice_of flow }
 {
-    if NO_FLOW <= flow {
-        return Choice::Idle;
-    }
-    Choice::Flow(flow as usize)
+    (flow < NO_FLOW).then_some(usize::from(flow))
 }
 
 // The count of flow g after a slot that went to `flow`. A count of 65,535 stays.
@@ -205,7 +194,7 @@ impl Multiplexer {
 
     // The eligible flow with the smallest deadline, of equals the one with the largest rate, of equals the lowest. Only the
     // first 16 rates count.
-    pub fn choose(self, rates: &[u16], frame: u32, slot: u32) -> Choice
+    pub fn choose(self, rates: &[u16], frame: u32, slot: u32) -> Option<usize>
         ensures { result ≡ choose_of rates.now self.served frame slot }
     {
         choice_of(self.chosen(rates, frame, slot))
@@ -225,10 +214,10 @@ impl Multiplexer {
     }
 
     // One service more for the chosen flow. A count of 65,535 stays, and a number past 15 changes nothing.
-    pub fn count(self, choice: Choice) -> Multiplexer
+    pub fn count(self, choice: Option<usize>) -> Multiplexer
         ensures { result ≡ count_of self choice }
     {
-        let Choice::Flow(f) = choice else {
+        let Some(f) = choice else {
             return self;
         };
         if MOST_PORTS <= f {

@@ -1,11 +1,16 @@
 -- Sums and tests over the numbers below n: one more term, all terms compared, one term changed or alone, sums of sums.
 use Prim.Native.Nat.{ℕ, zero, suc, ◌+◌, ◌*◌, ◌<◌, ◌≤◌}
-use mathlib.Core.Path.{◌≡◌, refl}
+use mathlib.Core.Path.{◌≡◌, refl, sym, ◌∙◌}
 use mathlib.Core.Bool.{Bool, true, false, ◌&&◌}
 use mathlib.Core.Logic.{◌⊎◌, inl, inr, ⊎_elim}
 use native.Mathlib.Decide.{dec_lt}
-use native.Mathlib.Nat.{add-zero, add-suc, zero-mul, suc-mul}
+use native.Mathlib.Nat.{add-zero, zero-add, add-suc, zero-mul, suc-mul}
 use native.Mathlib.Omega.{arith}
+use mathlib.Core.List.{List}
+use lib.ListN.{length, get_or}
+use Rattle.std.specs.Prelude.{MatchBool}
+use Rattle.std.specs.List.{AllWithin, HoldsAt, range_with_len}
+use Rattle.std.proofs.lemmas.List.FromFn.{length-range_with_len, get_or-range_with_len}
 use Rattle.plan.specs.Below.{sum_below, all_below}
 
 pub lt_or_le : (m n : ℕ) → (m < n) ⊎ (n ≤ m)
@@ -107,3 +112,20 @@ all_fails p n k l e = go (all_below p n) refl
     go : (b : Bool) → all_below p n ≡ b → all_below p n ≡ false
     go true h = let t = all_holds p n h k l in let z : ◌≡◌ {A = ℕ} 0 1 = cc in absurd (omega arith)
     go false h = h
+
+-- What `all` over a list answers, by what each call of its test answered; the list has x 0, .., x (n - 1).
+pub all_by_list : (p : ℕ → Bool) (x : ℕ → ℕ) (xs : List ℕ) (n : ℕ) (r : Bool) → length xs ≡ n → ((k : ℕ) → k < n → get_or xs k 0 ≡ x k)
+    → MatchBool r (AllWithin (λ m. p m ≡ true) xs 0 (length xs)) ((k : ℕ) × (k < length xs) × HoldsAt (λ m. p m ≡ false) xs k)
+    → r ≡ all_below (λ k. p (x k)) n
+all_by_list p x xs n true size has h = sym (all_intro (λ k. p (x k)) n (λ k l. rw (has k l) at (h k 0 (omega arith) (omega (arith, size)))))
+all_by_list p x xs n false size has h =
+    let below : h.0 < n = omega (arith, h.1, size) in
+    sym (all_fails (λ k. p (x k)) n h.0 below (rw (has h.0 below) at (h.2 0)))
+
+-- and over the numbers 0, .., n - 1
+pub all_by_range : (p : ℕ → Bool) (n : ℕ) (r : Bool)
+    → MatchBool r
+    (AllWithin (λ k. p k ≡ true) (range_with_len 0 n) 0 (length (range_with_len 0 n)))
+    ((k : ℕ) × (k < length (range_with_len 0 n)) × HoldsAt (λ k. p k ≡ false) (range_with_len 0 n) k)
+    → r ≡ all_below p n
+all_by_range p n r = all_by_list p (λ k. k) (range_with_len 0 n) n r (length-range_with_len 0 n) (λ k l. get_or-range_with_len 0 n k 0 l ∙ zero-add k)

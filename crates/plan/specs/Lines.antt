@@ -1,6 +1,6 @@
 -- "A plan is N, T and N × N rates of 16 bits, row by row, one row an input." A line is a row or a column.
-use Rattle.std.specs.Prelude.{ℕ, ◌+◌, ◌*◌, ◌<◌, ◌≤◌, Bool, List, length, get_or, eqb}
-use Rattle.plan.specs.Range.{most_ports}
+use Rattle.std.specs.Prelude.{ℕ, ◌+◌, ◌*◌, ◌<◌, ◌≤◌, ◌≡◌, Bool, List, length, get_or, eqb}
+use Rattle.plan.specs.Range.{most_ports, most_flows}
 use Rattle.plan.specs.Below.{sum_below}
 
 -- the number of the flow (i, j): where its rate stands in the list
@@ -26,3 +26,10 @@ line_sum list n across along k = sum_below (λ m. get_or list (k * across + m * 
 pub record LinesIn (list : List ℕ) (n across along : ℕ) : Type 0 where
   pub few : n ≤ most_ports
   pub inside : (k m : ℕ) → k < n → m < n → k * across + m * along < length list
+
+-- For the code: what the function answers that computes the number of a flow, and that the lists of N × N and of 256 have that
+-- place.
+pub record FlowPlace (n i j r : ℕ) : Type 0 where
+  pub is : r ≡ flow_of n i j
+  pub below : r < n * n
+  pub small : r < most_flows

@@ -9,7 +9,6 @@ use crate::range::MOST_FLOWS;
 pub mod acceptance;
 pub mod desk;
 pub mod lines;
-pub mod lists;
 pub mod range;
 
 // N, T and N x N rates, row by row; the places past N x N are not part of the plan.
@@ -21,14 +20,13 @@ pub struct Plan {
     pub rates: [u16; MOST_FLOWS],
 }
 
-// What stands in a refusal for a plan: all numbers are 0.
+// What stands in a refusal for a plan: all numbers are 0. It is no `Default`: a plan that nobody gave is none, and its name says so.
 pub fn no_plan() -> Plan
     ensures { result ≡ no_plan }
 {
-    let rates = [0u16; MOST_FLOWS];
     Plan {
         ports: 0,
         frame: 0,
-        rates: rates,
+        rates: [0; MOST_FLOWS],
     }
 }

@@ -10,30 +10,23 @@ pub const MOST_FLOWS: usize = MOST_PORTS * MOST_PORTS;
 // The slots of the longest frame.
 pub const MOST_SLOTS: u32 = 1024;
 
+#[tactic(auto, unfolding(crate::specs::Range::ports_in_range))]
 pub fn ports_in_range(n: usize) -> bool
     ensures { result ≡ ports_in_range n }
 {
-    if n < 1 {
-        return false;
-    }
-    n <= MOST_PORTS
+    (1..=MOST_PORTS).contains(&n)
 }
 
+#[tactic(auto, unfolding(crate::specs::Range::frame_in_range))]
 pub fn frame_in_range(t: u32) -> bool
     ensures { result ≡ frame_in_range t }
 {
-    if t < 1 {
-        return false;
-    }
-    t <= MOST_SLOTS
+    (1..=MOST_SLOTS).contains(&t)
 }
 
 // Whether a list of `len` numbers is N x N long; an N whose square passes 64 bits has no such list.
 pub fn is_square(n: usize, len: usize) -> bool
     ensures { result ≡ eqb len (n * n) }
 {
-    if 4294967295 < n {
-        return false;
-    }
-    len == n * n
+    n.checked_mul(n) == Some(len)
 }

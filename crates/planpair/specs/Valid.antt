@@ -1,6 +1,6 @@
 -- Number 12 of the two plans: "a plan in the state isn't accepted, or the two differ in N or T". "Number 12 judges a
 -- waiting plan only while one waits."
-use Rattle.std.specs.Prelude.{Bool, true, false, not, ◌&&◌, ◌||◌, eqb, is_ok}
+use Rattle.std.specs.Prelude.{Bool, not, ◌&&◌, ◌||◌, eqb, is_ok}
 use Rattle.plan.specs.Accept.{accept_of, IsPlan}
 use Rattle.plan.specs.declared.Plan.{Plan}
 use Rattle.planpair.specs.Rates.{plan_rates}

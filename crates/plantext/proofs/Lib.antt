@@ -3,6 +3,7 @@ pub mod NumberLaws
 pub mod TextLaws
 pub mod LengthLaws
 pub mod PlaceLaws
+pub mod SeriesLaws
 pub mod RowLaws
 pub mod ReadLaws
 pub mod Ascii

@@ -7,6 +7,7 @@ use native.Mathlib.Omega.{arith}
 use lib.Dec.{leb}
 use lib.ListN.{length, length-append}
 use borrow.Author.Tests.{leb-true, le-leb}
+use Rattle.std.proofs.lemmas.Option.{some_pair_parts}
 use Rattle.plan.proofs.BelowLaws.{and_true}
 use Rattle.plantext.specs.Bytes.{digit, is_digit, digit_of}
 use Rattle.plantext.specs.Grammar.{Digits, none, next, Number}
@@ -88,13 +89,11 @@ checked run text values rest s few e = go (leb 1 run.count && leb run.value 6553
         let tests = and_true (leb 1 run.count) (leb run.value 65535) h in
         let some = leb-true 1 run.count tests.0 in
         let small = leb-true run.value 65535 tests.1 in
-        let same : parsed (run.value ∷ []) run.rest ≡ parsed values rest = rw h at e in
-        let left : run.rest ≡ rest = cc in
-        let here : run.value ∷ [] ≡ values = cc in
+        let same = some_pair_parts (run.value ∷ []) values run.rest rest (rw h at e) in
         record {
           piece = s.piece;
-          split = s.split ∙ ap (λ (l : List ℕ). s.piece ++ l) left;
-          holds = subst (Number s.piece) here (grammar.number s.digits (omega (arith, s.size)) (omega (arith, s.size)) small);
+          split = s.split ∙ ap (λ (l : List ℕ). s.piece ++ l) same.1;
+          holds = subst (Number s.piece) same.0 (grammar.number s.digits (omega (arith, s.size)) (omega (arith, s.size)) small);
         }
     go false h = absurd (never (rw h at e))
 

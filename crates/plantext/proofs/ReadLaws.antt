@@ -5,16 +5,15 @@ use mathlib.Core.Path.{◌≡◌, refl, ap, sym, ◌∙◌}
 use mathlib.Core.Bool.{Bool, true, false, not}
 use mathlib.Core.List.{List, []}
 use mathlib.Core.Logic.{⊎_elim}
-use mathlib.Core.Option.{Option, none, some, get_or}
 use native.Mathlib.Nat.{mul-le-mul}
 use native.Mathlib.Omega.{arith}
 use lib.ListN.{length, take}
+use Rattle.std.specs.Prelude.{Option, None, Some, is_some, unwrap_or, Ok, Err}
 use lib.Seq.{length-take-le, take_all}
 use borrow.Author.Tests.{not-false}
 use Rattle.refusal.specs.Chain.{refuse_if}
-use Rattle.refusal.specs.Outcome.{outcome, written}
+use Rattle.refusal.specs.Outcome.{outcome}
 use Rattle.refusal.specs.declared.Refusal.TheVariants.{PortsOutOfRange, FrameOutOfRange, ListLength, RowAboveFrame, ColumnAboveFrame, NotPlanText}
-use Rattle.std.specs.Prelude.{Ok, Err}
 use Rattle.refusal.proofs.ChainLaws.{refuse_passed, refuse_ext}
 use Rattle.plan.specs.Lines.{row_sum, column_sum, is_square}
 use Rattle.plan.specs.Range.{most_ports, ports_in_range, frame_in_range}
@@ -24,24 +23,17 @@ use Rattle.plan.proofs.BelowLaws.{lt_or_le}
 use Rattle.plan.proofs.LineLaws.{square_small}
 use Rattle.plan.proofs.RangeLaws.{ports_range}
 use Rattle.plantext.specs.Values.{values_of}
-use Rattle.plantext.specs.Read.{is_some, is_text, values_in, judged_of, verdict_of, read_text_of, longest_text, most_text}
+use Rattle.plantext.specs.Read.{is_text, values_in, verdict_of, read_text_of, longest_text, most_text}
 use Rattle.plantext.proofs.TextLaws.{same_rules}
 use Rattle.plantext.proofs.LengthLaws.{text_short, text_counted}
-
--- what the values of a text decide
-pub none_judged : (n t : ℕ) (text rates : List ℕ) → values_of n text ≡ none → written (judged_of n t text) (values_in n text) rates ≡ outcome (Err NotPlanText) rates
-none_judged n t text rates e = rw e refl
-
-pub some_judged : (n t : ℕ) (text rates values : List ℕ) → values_of n text ≡ some values → written (judged_of n t text) (values_in n text) rates ≡ written (accept_of n t values) values rates
-some_judged n t text rates values e = rw e refl
 
 -- a text that keeps to the rules has N × N values
 values_counted : (n : ℕ) (text : List ℕ) → 1 ≤ n → is_text n text ≡ true → length (values_in n text) ≡ n * n
 values_counted n text some_port e = go (values_of n text) refl e
   where
     go : (o : Option (List ℕ)) → values_of n text ≡ o → is_some o ≡ true → length (values_in n text) ≡ n * n
-    go none h f = let z : ◌≡◌ {A = ℕ} 0 1 = cc in absurd (omega arith)
-    go (some values) h f = rw h (text_counted n text values ((same_rules n text values some_port).0 h))
+    go None h f = cc
+    go (Some values) h f = rw h (text_counted n text values ((same_rules n text values some_port).0 h))
 
 -- "16 for text that breaks these rules, after 1 to 3, before 4": of plan acceptance only the sums are left at the end
 pub verdict_order : (n t : ℕ) (text rates : List ℕ) →
@@ -69,7 +61,7 @@ ports_decide n t text rates e = rw e refl
 
 -- what an accepted call wrote: the values of the text, which are an accepted plan
 pub record Read (n t : ℕ) (text list : List ℕ) : Type 0 where
-  pub values : values_of n text ≡ some list
+  pub values : values_of n text ≡ Some list
   pub plan : accept_of n t list ≡ Ok tt
 
 pub accepted_text : (n t : ℕ) (text rates : List ℕ) → (read_text_of n t text rates).verdict ≡ Ok tt → Read n t text (read_text_of n t text rates).list
@@ -81,17 +73,17 @@ accepted_text n t text rates e =
     let rules = refuse_passed (not (is_text n text)) _ _ square.1 in
     rw e (record { values = some_values (values_of n text) (not-false _ rules.0); plan = rules.1 })
   where
-    some_values : (o : Option (List ℕ)) → is_some o ≡ true → o ≡ some (get_or o [])
-    some_values none f = let z : ◌≡◌ {A = ℕ} 0 1 = cc in absurd (omega arith)
-    some_values (some values) f = refl
+    some_values : (o : Option (List ℕ)) → is_some o ≡ true → o ≡ Some (unwrap_or o [])
+    some_values None f = cc
+    some_values (Some values) f = refl
 
 -- no text for N ports is longer than the longest
-too_long : (n : ℕ) (text : List ℕ) → 1 ≤ n → longest_text n < length text → values_of n text ≡ none
+too_long : (n : ℕ) (text : List ℕ) → 1 ≤ n → longest_text n < length text → values_of n text ≡ None
 too_long n text some_port long = go (values_of n text) refl
   where
-    go : (o : Option (List ℕ)) → values_of n text ≡ o → values_of n text ≡ none
-    go none e = e
-    go (some values) e = absurd (omega (arith, text_short n text values ((same_rules n text values some_port).0 e)))
+    go : (o : Option (List ℕ)) → values_of n text ≡ o → values_of n text ≡ None
+    go None e = e
+    go (Some values) e = absurd (omega (arith, text_short n text values ((same_rules n text values some_port).0 e)))
 
 longest_most : (n : ℕ) → n ≤ most_ports → longest_text n ≤ most_text
 longest_most n few = omega (arith, square_small n few, mul-le-mul few (minus_one few))

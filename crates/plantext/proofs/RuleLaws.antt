@@ -4,12 +4,13 @@ use Prim.Native.Nat.{ℕ, zero, suc}
 use mathlib.Core.Path.{◌≡◌, refl, ap, sym, subst, ◌∙◌}
 use mathlib.Core.Bool.{Bool, true, false}
 use mathlib.Core.List.{List, [], ◌∷◌, ◌++◌, append_assoc, append-nil}
-use native.Mathlib.Omega.{arith}
 use lib.Dec.{eqb}
+use Rattle.std.specs.Prelude.{None, Some}
+use Rattle.std.proofs.lemmas.Option.{some_pair_parts}
 use borrow.Author.Tests.{eqb-true, eq-eqb}
 use Rattle.plantext.specs.Bytes.{is_digit}
 use Rattle.plantext.specs.Grammar.{Series, one, more}
-use Rattle.plantext.specs.Values.{Parsed, nothing, parsed, prefixed, followed_by, skip, before, series}
+use Rattle.plantext.specs.Values.{Parsed, parsed, prefixed, followed_by, skip, before, series}
 
 -- a piece at the beginning of a text that has these values by the grammar, and what is left behind it
 pub record Taken (Piece : List ℕ → List ℕ → Type 0) (text values rest : List ℕ) : Type 0 where
@@ -30,8 +31,8 @@ NoDigit (b ∷ text) = is_digit b ≡ false
 abbrev pub Complete : (List ℕ → Parsed) → (List ℕ → List ℕ → Type 0) → Type 0
 Complete rule Piece = (piece values rest : List ℕ) → Piece piece values → NoDigit rest → rule (piece ++ rest) ≡ parsed values rest
 
-pub never : {values rest : List ℕ} → nothing ≡ parsed values rest → ⊥
-never e = let z : ◌≡◌ {A = ℕ} 0 1 = cc in omega arith
+pub never : {values rest : List ℕ} → None ≡ parsed values rest → ⊥
+never e = cc
 
 -- Two rules behind one another took something: what each of them took.
 pub record Both (first : Parsed) (rule : List ℕ → Parsed) (values rest : List ℕ) : Type 0 where
@@ -43,13 +44,13 @@ pub record Both (first : Parsed) (rule : List ℕ → Parsed) (values rest : Lis
   pub together : values ≡ early ++ late
 
 pub then_both : (first : Parsed) (rule : List ℕ → Parsed) (values rest : List ℕ) → followed_by first rule ≡ parsed values rest → Both first rule values rest
-then_both nothing rule values rest e = absurd (never e)
-then_both (parsed early middle) rule values rest e = go (rule middle) refl
+then_both None rule values rest e = absurd (never e)
+then_both (Some (early, middle)) rule values rest e = go (rule middle) refl
   where
     go : (second : Parsed) → rule middle ≡ second → Both (parsed early middle) rule values rest
-    go nothing h = absurd (never (sym (ap (prefixed early) h) ∙ e))
-    go (parsed late left) h =
-        let same : parsed (early ++ late) left ≡ parsed values rest = sym (ap (prefixed early) h) ∙ e in
+    go None h = absurd (never (sym (ap (prefixed early) h) ∙ e))
+    go (Some (late, left)) h =
+        let same = some_pair_parts _ _ _ _ (sym (ap (prefixed early) h) ∙ e) in
         record {
           early = early;
           middle = middle;
@@ -61,7 +62,7 @@ then_both (parsed early middle) rule values rest e = go (rule middle) refl
 
 pub skip_sound : (mark text values rest : List ℕ) → skip mark text ≡ parsed values rest → (values ≡ []) × (text ≡ mark ++ rest)
 unfolding skip
-skip_sound [] text values rest e = (cc, cc)
+skip_sound [] text values rest e = let same = some_pair_parts _ _ _ _ e in (cc, cc)
 skip_sound (m ∷ mark) [] values rest e = absurd (never e)
 skip_sound (m ∷ mark) (b ∷ text) values rest e = go (eqb b m) refl (skip_sound mark text values rest)
   where
@@ -79,8 +80,8 @@ skip_complete [] rest = refl
 skip_complete (m ∷ mark) rest = rw (eq-eqb m m refl) (skip_complete mark rest)
 
 pub prefixed_none : (p : Parsed) → prefixed [] p ≡ p
-prefixed_none nothing = refl
-prefixed_none (parsed values rest) = refl
+prefixed_none None = refl
+prefixed_none (Some (values, rest)) = refl
 
 -- A series of items whose function and grammar agree, with a mark that begins with no digit.
 module _ (item : List ℕ → Parsed) (Item : List ℕ → List ℕ → Type 0) (mark : List ℕ) where

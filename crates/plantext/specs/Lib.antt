@@ -2,4 +2,3 @@ pub mod Bytes
 pub mod Grammar
 pub mod Values
 pub mod Read
-pub mod Place

@@ -1,7 +1,6 @@
 -- Reading a plan's text: "Given N, T and that text, the switch must yield the plan, its rates in a lent list." "16 for text
 -- that breaks these rules, after 1 to 3, before 4."
-use Rattle.std.specs.Prelude.{ℕ, ◌+◌, ◌*◌, ◌-◌, Bool, true, false, not, List, []}
-use Rattle.std.proofs.Math.Option.{Option, none, some, get_or}
+use Rattle.std.specs.Prelude.{ℕ, ◌+◌, ◌*◌, ◌-◌, Bool, not, List, [], is_some, unwrap_or}
 use Rattle.refusal.specs.Chain.{refuse_if}
 use Rattle.refusal.specs.Outcome.{Outcome, written}
 use Rattle.refusal.specs.declared.Refusal.TheVariants.{PortsOutOfRange, FrameOutOfRange, ListLength, NotPlanText}
@@ -11,18 +10,13 @@ use Rattle.plan.specs.Lines.{is_square}
 use Rattle.plan.specs.Accept.{accept_of}
 use Rattle.plantext.specs.Values.{values_of}
 
--- whether there is a value
-abbrev pub is_some : {A : Type 0} → Option A → Bool
-is_some none = false
-is_some (some x) = true
-
 -- whether a text keeps to the rules
 abbrev pub is_text : ℕ → List ℕ → Bool
 is_text n text = is_some (values_of n text)
 
 -- its values; of a text that doesn't, none
 abbrev pub values_in : ℕ → List ℕ → List ℕ
-values_in n text = get_or (values_of n text) []
+values_in n text = unwrap_or (values_of n text) []
 
 -- the text's rules, then what makes a plan acceptable
 abbrev pub judged_of : ℕ → ℕ → List ℕ → Verdict

@@ -6,10 +6,7 @@ ghost use Rattle.plantext.specs.Bytes.{is_digit, digit_of};
 pub fn is_digit(byte: u8) -> bool
     ensures { result ≡ is_digit byte }
 {
-    if byte < b'0' {
-        return false;
-    }
-    byte <= b'9'
+    byte.is_ascii_digit()
 }
 
 #[tactic(auto, unfolding(crate::specs::Bytes::is_digit))]
@@ -17,5 +14,5 @@ pub fn digit_of(byte: u8) -> u32
     requires { is_digit byte ≡ true }
     ensures { (result ≡ digit_of byte) × (result < 10) }
 {
-    (byte - b'0') as u32
+    u32::from(byte - b'0')
 }

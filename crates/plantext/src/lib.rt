@@ -9,7 +9,6 @@ ghost use Rattle.plantext.specs.Read.{values_in, judged_of, read_text_of};
 
 use crate::records::read_values;
 use plan::acceptance::accept;
-use plan::lists::copy;
 use plan::range::{MOST_FLOWS, MOST_PORTS, frame_in_range, is_square, ports_in_range};
 use refusal::Refusal;
 
@@ -26,7 +25,7 @@ fn hand_over(n: usize, t: u32, values: &[u16], rates: &mut [u16]) -> Result<(), 
     ensures { outcome result rates.new ≡ written (accept_of n t values.now) values.now rates.old }
 {
     accept(n, t, values)?;
-    copy(values, rates);
+    rates.copy_from_slice(values);
     Ok(())
 }
 
@@ -38,15 +37,15 @@ fn read_rates(n: usize, t: u32, text: &[u8], rates: &mut [u16]) -> Result<(), Re
 {
     let mut values = [0u16; MOST_FLOWS];
     let flows = n * n;
-    if !read_values(text, n, &mut values[..flows]) {
+    let Some(()) = read_values(text, n, &mut values[..flows]) else {
         return Err(Refusal::NotPlanText);
-    }
+    };
     hand_over(n, t, &values[..flows], rates)
 }
 
 // Writes the rates of a text to the list, row by row, and answers whether it did: N, T, the list's length, the text's rules,
 // then the sums.
-#[tactic(auto, unfolding(crate::specs::Read::read_text_of, crate::specs::Read::verdict_of))]
+#[tactic(auto, using(plan::proofs::RangeLaws::ports_range), unfolding(crate::specs::Read::read_text_of, crate::specs::Read::verdict_of))]
 pub fn read_text(n: usize, t: u32, text: &[u8], rates: &mut [u16]) -> Result<(), Refusal>
     ensures { outcome result rates.new ≡ read_text_of n t text.now rates.old }
 {

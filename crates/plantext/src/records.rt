@@ -1,91 +1,72 @@
 // Records, and the text as a whole.
-ghost use Rattle.std.specs.Prelude.{[], ◌≡◌, ◌*◌, length, drop};
+ghost use Rattle.std.specs.Prelude.{[], ◌≡◌, ◌*◌, length, option_map};
 ghost use Rattle.plantext.specs.Bytes.{comma, line_end};
 ghost use Rattle.plantext.specs.Values as values;
-ghost use Rattle.plantext.specs.Place.{placed, found};
 
-use crate::scan::{Place, Value, read_field, skip, skip_line_end};
+use crate::scan::{read_field, skip, skip_line_end};
 
 // A comma stands before each field of a record but the first.
 #[tactic(auto, unfolding(crate::specs::Values::skip))]
-fn field_start(text: &[u8], at: usize, k: usize) -> Place
-    ensures { placed text.now [] result ≡ values.skip (values.before comma k) (drop at text.now) }
+fn field_start(text: &[u8], k: usize) -> Option<&[u8]>
+    ensures { option_map (λ rest. ([], rest.now)) result ≡ values.skip (values.before comma k) text.now }
 {
     if k == 0 {
-        return Place::At(at);
+        return Some(text);
     }
-    skip(text, at, b',')
+    skip(text, b',')
 }
 
 // A record, one value to each place of the row.
-fn read_record(text: &[u8], from: usize, row: &mut [u16]) -> Place
-    ensures { placed text.now row.new result ≡ values.record_of (length row.old) (drop from text.now) }
+#[tactic(auto, using(crate::proofs::SeriesLaws::no_mark, crate::proofs::SeriesLaws::no_item, crate::proofs::SeriesLaws::field_next), unfolding(crate::specs::Values::series))]
+fn read_record<'a>(text: &'a [u8], row: &mut [u16]) -> Option<&'a [u8]>
+    ensures { option_map (λ rest. (row.new, rest.now)) result ≡ values.record_of (length row.old) text.now }
 {
-    let mut at = from;
-    for k in 0..row.len() {
-        let Place::At(start) = field_start(text, at, k) else {
-            return Place::Nowhere;
-        };
-        let Value::Read(value, next) = read_field(text, start) else {
-            return Place::Nowhere;
-        };
-        row[k] = value;
-        at = next;
+    let mut rest = text;
+    for (k, place) in row.iter_mut().enumerate() {
+        (*place, rest) = read_field(field_start(rest, k)?)?;
     }
-    Place::At(at)
+    Some(rest)
 }
 
 // CR LF stands before each record but the first.
 #[tactic(auto, unfolding(crate::specs::Values::skip))]
-fn record_start(text: &[u8], at: usize, k: usize) -> Place
-    ensures { placed text.now [] result ≡ values.skip (values.before line_end k) (drop at text.now) }
+fn record_start(text: &[u8], k: usize) -> Option<&[u8]>
+    ensures { option_map (λ rest. ([], rest.now)) result ≡ values.skip (values.before line_end k) text.now }
 {
     if k == 0 {
-        return Place::At(at);
+        return Some(text);
     }
-    skip_line_end(text, at)
+    skip_line_end(text)
 }
 
-// The records of n inputs, a row of the list to each.
-fn read_records(text: &[u8], n: usize, list: &mut [u16]) -> Place
+// The records of n inputs, a row of the list to each. By number: of a list lent by `chunks_exact_mut` a proof knows only the length.
+#[tactic(auto, using(crate::proofs::SeriesLaws::no_mark, crate::proofs::RowLaws::no_record, crate::proofs::RowLaws::record_next), unfolding(crate::specs::Values::series))]
+fn read_records<'a>(text: &'a [u8], n: usize, list: &mut [u16]) -> Option<&'a [u8]>
     requires { length list.old ≡ n * n }
-    ensures { placed text.now list.new result ≡ values.records_of n text.now }
+    ensures { option_map (λ rest. (list.new, rest.now)) result ≡ values.records_of n text.now }
 {
-    let mut at = 0;
+    let mut rest = text;
     for k in 0..n {
-        let Place::At(start) = record_start(text, at, k) else {
-            return Place::Nowhere;
-        };
         let first = k * n;
-        let Place::At(next) = read_record(text, start, &mut list[first..first + n]) else {
-            return Place::Nowhere;
-        };
-        at = next;
+        rest = read_record(record_start(rest, k)?, &mut list[first..first + n])?;
     }
-    Place::At(at)
+    Some(rest)
 }
 
 // Whether nothing is left of the text, or one CR LF.
-fn ends(text: &[u8], at: usize) -> bool
-    ensures { result ≡ values.ends (drop at text.now) }
+#[tactic(auto, unfolding(crate::specs::Values::ends, crate::specs::Values::skip))]
+fn ends(rest: &[u8]) -> bool
+    ensures { result ≡ values.ends rest.now }
 {
-    if text.len() <= at {
-        return true;
-    }
-    let Place::At(end) = skip_line_end(text, at) else {
-        return false;
-    };
-    text.len() <= end
+    matches!(rest, [] | [b'\r', b'\n'])
 }
 
-// Puts the values of a text for n inputs into the list, and answers whether the text keeps to the rules.
+// Puts the values of a text for n inputs into the list, if the text keeps to the rules.
 #[tactic(auto, unfolding(crate::specs::Values::values_of))]
-pub fn read_values(text: &[u8], n: usize, list: &mut [u16]) -> bool
+pub fn read_values(text: &[u8], n: usize, list: &mut [u16]) -> Option<()>
     requires { length list.old ≡ n * n }
-    ensures { found result list.new ≡ values.values_of n text.now }
+    ensures { option_map (λ read. list.new) result ≡ values.values_of n text.now }
 {
-    let Place::At(end) = read_records(text, n, list) else {
-        return false;
-    };
-    ends(text, end)
+    let rest = read_records(text, n, list)?;
+    ends(rest).then_some(())
 }

@@ -1,16 +1,13 @@
 -- The operations' answers as plain records: numbers stand in the place of cases. A verdict is its number by
 -- `verdict_number_of`, a port's kind its number by `kind_of`.
-use Rattle.std.specs.Prelude.{ℕ, zero, suc, cond, List, eqb, set, replicate}
+use Rattle.std.specs.Prelude.{ℕ, zero, suc, cond, List, eqb, set, replicate, Option, Some, None}
 use Rattle.refusal.specs.Number.{verdict_number_of}
 use Rattle.plan.specs.Range.{most_ports}
 use Rattle.planfile.specs.declared.Reading.{Reading}
 use Rattle.meter.specs.declared.Measured.{Measured}
-use Rattle.multiplexer.specs.declared.Choice.{Choice}
-use Rattle.multiplexer.specs.declared.Choice.TheVariants.{Idle, Flow}
 use Rattle.fabric.specs.Answer.{kind_of, answer_of}
 use Rattle.fabric.specs.declared.flow.Answer.{Answer}
 use Rattle.fabric.specs.declared.flow.Answer.TheVariants as answer
-use Rattle.fabric.specs.declared.flow.Port.{Port}
 use Rattle.crossbar.specs.declared.state.Reply.{Reply}
 use Rattle.crossbar.specs.declared.state.SlotReply.{SlotReply}
 use Rattle.records.specs.declared.PortRecord.{PortRecord}
@@ -37,29 +34,29 @@ abbrev pub answer_record : Answer → PortRecord
 answer_record a = record { kind = kind_of a; other = other_of a; cell = cell_of a }
 
 -- the records of the ports below m; those from m up are idle
-unfoldable pub records_below : List Port → ℕ → List PortRecord
-records_below ports zero = replicate most_ports (answer_record answer.Idle)
-records_below ports (suc m) = set (records_below ports m) m (answer_record (answer_of ports m))
+unfoldable pub records_below : List Answer → ℕ → List PortRecord
+records_below answers zero = replicate most_ports (answer_record answer.Idle)
+records_below answers (suc m) = set (records_below answers m) m (answer_record (answer_of answers m))
 
-abbrev pub port_records : List Port → List PortRecord
-port_records ports = records_below ports most_ports
+abbrev pub port_records : List Answer → List PortRecord
+port_records answers = records_below answers most_ports
 
 -- "With none eligible the port idles": the number of each case of a choice
-abbrev pub choice_kind_of : Choice → ℕ
-choice_kind_of Idle = 0
-choice_kind_of (Flow f) = 1
+abbrev pub choice_kind_of : Option ℕ → ℕ
+choice_kind_of None = 0
+choice_kind_of (Some f) = 1
 
 -- the flow, 0 where a choice has none
-abbrev pub flow_in : Choice → ℕ
-flow_in Idle = 0
-flow_in (Flow f) = f
+abbrev pub flow_in : Option ℕ → ℕ
+flow_in None = 0
+flow_in (Some f) = f
 
-abbrev pub choice_record : Choice → ChoiceRecord
+abbrev pub choice_record : Option ℕ → ChoiceRecord
 choice_record c = record { kind = choice_kind_of c; flow = flow_in c }
 
--- the choice that a caller hands over: every kind but that of `Idle` is a flow
-abbrev pub choice_in : ChoiceRecord → Choice
-choice_in c = cond (eqb c.kind (choice_kind_of Idle)) Idle (Flow c.flow)
+-- the choice that a caller hands over: every kind but that of `None` is a flow
+abbrev pub choice_in : ChoiceRecord → Option ℕ
+choice_in c = cond (eqb c.kind (choice_kind_of None)) None (Some c.flow)
 
 abbrev pub reply_record : Reply → ReplyRecord
 reply_record r = record { verdict = verdict_number_of r.verdict; state = r.state }

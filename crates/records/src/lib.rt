@@ -8,9 +8,8 @@ ghost use Rattle.fabric.specs.Answer.{kind_of};
 ghost use Rattle.records.specs.Records.{other_of, cell_of, answer_record, port_records, choice_record, choice_in, reply_record, slot_record, reading_record, cover_record};
 
 use crossbar::state::{Reply, SlotReply, Switch};
-use fabric::flow::{Answer, Port};
+use fabric::flow::Answer;
 use meter::{Measured, Stretch};
-use multiplexer::Choice;
 use plan::Plan;
 use plan::range::MOST_PORTS;
 use planfile::Reading;
@@ -113,10 +112,9 @@ fn cell_of(answer: Answer) -> u32
 }
 
 // Field by field: a processor need not foresee which kind comes.
-fn port_record(port: Port) -> PortRecord
-    ensures { result ≡ answer_record port.answer }
+fn port_record(answer: Answer) -> PortRecord
+    ensures { result ≡ answer_record answer }
 {
-    let answer = port.answer;
     PortRecord {
         kind: kind_of(answer),
         other: other_of(answer),
@@ -125,8 +123,8 @@ fn port_record(port: Port) -> PortRecord
 }
 
 #[tactic(auto, unfolding(crate::specs::Records::records_below))]
-fn port_records(ports: [Port; MOST_PORTS]) -> [PortRecord; MOST_PORTS]
-    ensures { result ≡ port_records ports }
+fn port_records(answers: [Answer; MOST_PORTS]) -> [PortRecord; MOST_PORTS]
+    ensures { result ≡ port_records answers }
 {
     let mut records = [PortRecord {
         kind: IDLE,
@@ -134,33 +132,31 @@ fn port_records(ports: [Port; MOST_PORTS]) -> [PortRecord; MOST_PORTS]
         cell: 0,
     }; MOST_PORTS];
     for p in 0..MOST_PORTS {
-        let port = ports[p];
-        let record = port_record(port);
-        records[p] = record;
+        records[p] = port_record(answers[p]);
     }
     records
 }
 
-pub fn choice_record(choice: Choice) -> ChoiceRecord
+pub fn choice_record(choice: Option<usize>) -> ChoiceRecord
     ensures { result ≡ choice_record choice }
 {
     match choice {
-        Choice::Idle => ChoiceRecord {
+        None => ChoiceRecord {
             kind: NO_FLOW,
             flow: 0,
         },
-        Choice::Flow(flow) => ChoiceRecord { kind: FLOW, flow },
+        Some(flow) => ChoiceRecord { kind: FLOW, flow },
     }
 }
 
 // The choice that a caller hands over; every kind but NO_FLOW is a flow.
-pub fn choice_in(choice: ChoiceRecord) -> Choice
+pub fn choice_in(choice: ChoiceRecord) -> Option<usize>
     ensures { result ≡ choice_in choice }
 {
     if choice.kind == NO_FLOW {
-        return Choice::Idle;
+        return None;
     }
-    Choice::Flow(choice.flow)
+    Some(choice.flow)
 }
 
 pub fn reply_record(reply: Reply) -> ReplyRecord

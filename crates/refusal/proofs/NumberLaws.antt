@@ -17,7 +17,7 @@ verdicts =
     ∷ Err DepthOutOfRange ∷ Err StoreLength ∷ Err PlanMismatch ∷ Err NoSuchPort ∷ Err QueueFull ∷ Err StateInvalid
     ∷ Err CrosspointFull ∷ Err NotPlanFile ∷ Err FileLength ∷ Err NotPlanText ∷ Err RecordLength ∷ []
 
--- the first of them that has number k; where none has it, `Accepted`
+-- the first of them that has number k; where none has it, `Ok`
 abbrev first_with : ℕ → List Verdict → Verdict
 first_with k [] = Ok tt
 first_with k (v ∷ vs) = cond (eqb (verdict_number_of v) k) v (first_with k vs)

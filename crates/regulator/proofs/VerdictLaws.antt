@@ -7,9 +7,8 @@ use lib.Dec.{leb}
 use lib.ListN.{length, get_or}
 use Rattle.refusal.specs.Chain.{refuse_if}
 use Rattle.refusal.proofs.ChainLaws.{then_passed}
-use Rattle.refusal.specs.declared.Refusal.{Refusal}
 use Rattle.refusal.specs.declared.Refusal.TheVariants.{RowAboveFrame, ColumnAboveFrame}
-use Rattle.std.specs.Prelude.{Ok, Err}
+use Rattle.std.specs.Prelude.{Ok}
 use Rattle.plan.specs.Lines.{row_sum, column_sum}
 use Rattle.plan.specs.Accept.{within_frame, accept_of}
 use Rattle.plan.proofs.BelowLaws.{all_ext}
@@ -20,11 +19,7 @@ use Rattle.regulator.specs.Sums.{LineSums}
 use Rattle.regulator.specs.Boost.{boost_verdict}
 use Rattle.regulator.proofs.OutcomeLaws.{lists_passed, lists_pass}
 
--- the verdict where the first checks refuse, and where they pass, from the kept sums
-
-pub lists_refused : (n t : ℕ) (given rates : List ℕ) (r : Refusal) → lists_of n t (length given) (length rates) ≡ Err r → boost_verdict n t given rates ≡ Err r
-unfolding boost_verdict
-lists_refused n t given rates r e = rw e
+-- the verdict where the first checks pass, from the kept sums
 
 pub sums_verdict : (n t : ℕ) (given rates rows columns : List ℕ) → lists_of n t (length given) (length rates) ≡ Ok tt → LineSums given n rows columns
     → boost_verdict n t given rates
@@ -39,7 +34,7 @@ sums_verdict n t given rates rows columns e s =
       all_ext (λ k. leb (get_or columns k 0) t) (λ k. leb (column_sum given n k) t) n (λ k b. ap (λ (x : ℕ). leb x t) (s.column k b)),
     )
 
--- who gets Accepted: an accepted plan, with an output list of its length; and nobody else
+-- who is accepted: an accepted plan, with an output list of its length; and nobody else
 pub boost_taken : (n t : ℕ) (given rates : List ℕ) → boost_verdict n t given rates ≡ Ok tt → (accept_of n t given ≡ Ok tt) × (length rates ≡ n * n)
 unfolding boost_verdict
 boost_taken n t given rates e =

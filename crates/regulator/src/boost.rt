@@ -2,28 +2,22 @@
 ghost use Rattle.std.specs.Prelude.{◌≡◌, ◌*◌, ◌<◌, ◌≤◌, get_or};
 ghost use Rattle.plan.specs.Range.{most_ports};
 ghost use Rattle.plan.specs.Accept.{IsPlan, within_frame};
-ghost use Rattle.plan.specs.Lines.{flow_of};
 ghost use Rattle.regulator.specs.Outcome.{outcome};
 ghost use Rattle.regulator.specs.Sums.{LineSums};
 ghost use Rattle.regulator.specs.Boost.{column_on, boost_diagonal, diagonal_in, boosted_of, boost_of};
 
 use crate::lists::check_lists;
-use crate::sums::{Sums, larger, sums_of};
-use plan::lists::copy;
+use crate::sums::Sums;
+use plan::lines::flow_place;
 use plan::range::MOST_PORTS;
 use refusal::Refusal;
 
 // Whether none of the n sums is above t.
-fn sums_fit(sums: [u32; MOST_PORTS], n: usize, t: u32) -> bool
+fn sums_fit(sums: &[u32; MOST_PORTS], n: usize, t: u32) -> bool
     requires { n ≤ most_ports }
-    ensures { result ≡ within_frame (λ k. get_or sums k 0) n t }
+    ensures { result ≡ within_frame (λ k. get_or sums.now k 0) n t }
 {
-    for k in 0..n {
-        if t < sums[k] {
-            return false;
-        }
-    }
-    true
+    sums[..n].iter().all(|sum| *sum <= t)
 }
 
 // The column of row i on diagonal k.
@@ -35,30 +29,18 @@ fn column_on(n: usize, k: usize, i: usize) -> usize
     (i + k) % n
 }
 
-// Where the rate of the flow (i, j) stands.
-fn flow(n: usize, i: usize, j: usize) -> usize
-    requires { (n ≤ most_ports) × (i < n) × (j < n) }
-    ensures { (result ≡ flow_of n i j) × (result < n * n) }
+// Diagonal k. The sums of the rates are kept.
+#[tactic(auto, unfolding(crate::specs::Boost::boost_diagonal))]
+fn boost_diagonal(n: usize, t: u32, k: usize, sums: &mut Sums, rates: &mut [u16])
+    requires { IsPlan n t rates.old × LineSums rates.old n sums.old.rows sums.old.columns × (k < n) }
+    ensures { (rates.new ≡ boost_diagonal n t k rates.old n) × LineSums rates.new n sums.new.rows sums.new.columns }
 {
-    i * n + j
-}
-
-// Diagonal k. Takes the sums of the rates, and answers them as they are afterwards.
-fn boost_diagonal(n: usize, t: u32, k: usize, sums: Sums, rates: &mut [u16]) -> Sums
-    requires { IsPlan n t rates.old × LineSums rates.old n sums.rows sums.columns × (k < n) }
-    ensures { (rates.new ≡ boost_diagonal n t k rates.old n) × LineSums rates.new n result.rows result.columns }
-{
-    let mut rows = sums.rows;
-    let mut columns = sums.columns;
     for i in 0..n {
         let j = column_on(n, k, i);
-        let p = flow(n, i, j);
-        let spare = t - larger(rows[i], columns[j]);
-        rates[p] += spare as u16;
-        rows[i] += spare;
-        columns[j] += spare;
+        let spare = t - sums.larger(i, j);
+        rates[flow_place(n, i, j)] += spare as u16;
+        sums.add(i, j, spare);
     }
-    Sums { rows, columns }
 }
 
 // The diagonal in a turn of a period. The sum has 64 bits, so that no period number makes it wrap.
@@ -71,31 +53,29 @@ fn diagonal_in(n: usize, period: u32, turn: usize) -> usize
 }
 
 #[tactic(auto, unfolding(crate::specs::Boost::boosted_of, crate::specs::Boost::boost_diagonals))]
-fn boost_diagonals(n: usize, t: u32, period: u32, sums: Sums, rates: &mut [u16])
+fn boost_diagonals(n: usize, t: u32, period: u32, mut sums: Sums, rates: &mut [u16])
     requires { IsPlan n t rates.old × LineSums rates.old n sums.rows sums.columns }
     ensures { rates.new ≡ boosted_of n t period rates.old }
 {
-    let mut sums = sums;
     for turn in 0..n {
-        sums = boost_diagonal(n, t, diagonal_in(n, period, turn), sums, rates);
+        boost_diagonal(n, t, diagonal_in(n, period, turn), &mut sums, rates);
     }
 }
 
 // Writes the given plan with its spare slots given out, and answers whether it did.
+#[tactic(auto, using(crate::proofs::OutcomeLaws::lists_passed), unfolding(crate::specs::Boost::boost_of, crate::specs::Boost::boost_verdict))]
 pub fn boost(n: usize, t: u32, period: u32, given: &[u16], rates: &mut [u16]) -> Result<(), Refusal>
     ensures { outcome result rates.new ≡ boost_of n t period given.now rates.old }
 {
     check_lists(n, t, given.len(), rates.len())?;
-    let sums = sums_of(given, n);
-    let rows = sums.rows;
-    if !sums_fit(rows, n, t) {
+    let sums = Sums::of(given, n);
+    if !sums_fit(&sums.rows, n, t) {
         return Err(Refusal::RowAboveFrame);
     }
-    let columns = sums.columns;
-    if !sums_fit(columns, n, t) {
+    if !sums_fit(&sums.columns, n, t) {
         return Err(Refusal::ColumnAboveFrame);
     }
-    copy(given, rates);
+    rates.copy_from_slice(given);
     boost_diagonals(n, t, period, sums, rates);
     Ok(())
 }

@@ -16,10 +16,7 @@ pub fn check_lists(n: usize, t: u32, from: usize, to: usize) -> Result<(), Refus
     if !frame_in_range(t) {
         return Err(Refusal::FrameOutOfRange);
     }
-    if !is_square(n, from) {
-        return Err(Refusal::ListLength);
-    }
-    if !is_square(n, to) {
+    if !is_square(n, from) || !is_square(n, to) {
         return Err(Refusal::ListLength);
     }
     Ok(())

@@ -5,7 +5,7 @@ ghost use Rattle.regulator.specs.Outcome.{outcome, Checked};
 ghost use Rattle.regulator.specs.Scale.{share_of, scaled_of, scale_of};
 
 use crate::lists::check_lists;
-use crate::sums::{larger, sums_of};
+use crate::sums::Sums;
 use refusal::Refusal;
 
 // The rate of a demand; `sum` is the larger of its two sums.
@@ -16,20 +16,16 @@ fn share(d: u16, t: u32, sum: u32) -> u16
     if d == 0 {
         return 0;
     }
-    ((d as u32) * t / sum) as u16
+    (u32::from(d) * t / sum) as u16
 }
 
 fn scale_places(n: usize, t: u32, demands: &[u16], rates: &mut [u16])
     requires { Checked n t (length demands.now) (length rates.old) }
     ensures { rates.new ≡ scaled_of n t demands.now }
 {
-    let sums = sums_of(demands, n);
-    let rows = sums.rows;
-    let columns = sums.columns;
+    let sums = Sums::of(demands, n);
     for p in 0..n * n {
-        let i = p / n;
-        let j = p % n;
-        rates[p] = share(demands[p], t, larger(rows[i], columns[j]));
+        rates[p] = share(demands[p], t, sums.larger(p / n, p % n));
     }
 }
 

@@ -1,9 +1,9 @@
 // The sums of all rows and columns of a list, kept side by side.
-ghost use Rattle.std.specs.Prelude.{◌≡◌, ◌*◌, ◌<◌, ◌≤◌, max, length};
+ghost use Rattle.std.specs.Prelude.{◌≡◌, ◌+◌, ◌*◌, ◌<◌, ◌≤◌, ◌^◌, max, length, get_or, set};
 ghost use Rattle.plan.specs.Range.{most_ports};
 ghost use Rattle.regulator.specs.Sums.{LineSums};
 
-use plan::lines::line_sum;
+use plan::lines::Lines;
 use plan::range::MOST_PORTS;
 
 #[derive(Drop)]
@@ -12,24 +12,40 @@ pub struct Sums {
     pub columns: [u32; MOST_PORTS],
 }
 
-pub fn larger(a: u32, b: u32) -> u32
-    ensures { result ≡ max a b }
-{
-    if a < b {
-        return b;
+impl Sums {
+    pub fn of(list: &[u16], n: usize) -> Sums
+        requires { (n ≤ most_ports) × (length list.now ≡ n * n) }
+        ensures { LineSums list.now n result.rows result.columns }
+    {
+        let rows = Lines::rows(list, n);
+        let columns = Lines::columns(list, n);
+        let mut sums = Sums {
+            rows: [0; MOST_PORTS],
+            columns: [0; MOST_PORTS],
+        };
+        for k in 0..n {
+            sums.rows[k] = rows.sum(k);
+            sums.columns[k] = columns.sum(k);
+        }
+        sums
     }
-    a
-}
 
-pub fn sums_of(list: &[u16], n: usize) -> Sums
-    requires { (n ≤ most_ports) × (length list.now ≡ n * n) }
-    ensures { LineSums list.now n result.rows result.columns }
-{
-    let mut rows = [0u32; MOST_PORTS];
-    let mut columns = [0u32; MOST_PORTS];
-    for k in 0..n {
-        rows[k] = line_sum(list, n, n, 1, k);
-        columns[k] = line_sum(list, n, 1, n, k);
+    // The larger of the sums of row i and column j.
+    pub fn larger(&self, i: usize, j: usize) -> u32
+        requires { (i < most_ports) × (j < most_ports) }
+        ensures { result ≡ max (get_or self.now.rows i 0) (get_or self.now.columns j 0) }
+    {
+        self.rows[i].max(self.columns[j])
     }
-    Sums { rows, columns }
+
+    // The rate at (i, j) has grown.
+    pub fn add(&mut self, i: usize, j: usize, spare: u32)
+        requires in_range { (i < most_ports) × (j < most_ports) }
+        requires fits { (get_or self.old.rows i 0 + spare < 2 ^ 32) × (get_or self.old.columns j 0 + spare < 2 ^ 32) }
+        ensures rows { self.new.rows ≡ set self.old.rows i (get_or self.old.rows i 0 + spare) }
+        ensures columns { self.new.columns ≡ set self.old.columns j (get_or self.old.columns j 0 + spare) }
+    {
+        self.rows[i] += spare;
+        self.columns[j] += spare;
+    }
 }

@@ -13,7 +13,7 @@ use Rattle.runs.specs.Event.{Event, state_after, store_after}
 use Rattle.runs.specs.Run.{Happens, Follow, final_state, final_store}
 use Rattle.runs.specs.Flow.{collect, accepted_in, moved_in, left_in, accepted, moved, left, slots, NeverEmpty, HasRate, share_up, share_down}
 use Rattle.runs.specs.Promise.{point_cells, queue_cells, Holds}
-use Rattle.runs.proofs.RunLaws.{collect_append, total_append, final_state_append, follow_append}
+use Rattle.runs.proofs.RunLaws.{collect_append, final_state_append, follow_append}
 use Rattle.runs.proofs.ShareLaws.{share_at_most, share_at_least, share_whole}
 use Rattle.runs.proofs.LedgerLaws.{held, by_board, by_head, head_services, AtRest, NearEnds, Ledger, ledger_none, ledger_append}
 

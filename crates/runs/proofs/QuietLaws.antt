@@ -9,7 +9,7 @@ use Rattle.refusal.specs.declared.Refusal.{Refusal}
 use Rattle.std.specs.Prelude.{Err}
 use Rattle.plan.specs.declared.Plan.{Plan}
 use Rattle.crossbar.specs.Load.{with_plans}
-use Rattle.fabric.specs.Answer.{port, all_idle}
+use Rattle.fabric.specs.Answer.{all_idle}
 use Rattle.fabric.specs.declared.flow.Answer.TheVariants.{Idle}
 use Rattle.crossbar.specs.declared.state.Reply.{Reply}
 use Rattle.crossbar.specs.declared.state.Switch.{Switch}
@@ -54,6 +54,6 @@ any_load i j n t rates r = record { accepted = refl; moved = refl; left = refl; 
 
 pub refused_step : (i j : ℕ) (lent : Lent) (r : Refusal) (s : Switch) → Quiet i j (stepped lent (record { verdict = Err r; state = s; moves = all_idle; sends = all_idle }))
 refused_step i j lent r s =
-    let board = get_d_repeated most_ports i (port Idle) in
-    let head = get_d_repeated most_ports j (port Idle) in
+    let board = get_d_repeated most_ports i Idle in
+    let head = get_d_repeated most_ports j Idle in
     record { accepted = refl; moved = rw board refl; left = rw head refl; slots = refl; heads = rw head refl; boards = rw board refl }

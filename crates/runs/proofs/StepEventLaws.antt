@@ -36,7 +36,7 @@ use Rattle.runs.proofs.QuietLaws.{refused_law, refused_step}
 
 -- an accepted step of a state that no plan takes over any more
 abbrev slot_event : Lent → Switch → List ℕ → Event
-slot_event lent u store = stepped lent (record { verdict = Ok tt; state = after_slot u store; moves = (slot_moves u store).ports; sends = (slot_sends u store).ports })
+slot_event lent u store = stepped lent (record { verdict = Ok tt; state = after_slot u store; moves = (slot_moves u store).answers; sends = (slot_sends u store).answers })
 
 module _ {u : Switch} {store : List ℕ} (ok : Sound u store) (lent : Lent) (i j : ℕ) (hi : i < u.running.ports) (hj : j < u.running.ports) where
   abbrev e : Event
@@ -109,7 +109,7 @@ module _ {s : Switch} {store : List ℕ} (ok : Sound s store) (valid : valid_of 
   step_other_keeps l ne = go (step_verdict s (length l)) refl
     where
       go : (v : Verdict) → step_verdict s (length l) ≡ v → Sound (state_after (answered s store (step (other l)))) store
-      go (Ok _) e = absurd (refused_other l ne e)
+      go (Ok tt) e = absurd (refused_other l ne e)
       go (Err r) e = rw e ok
 
   module _ (i j : ℕ) (hi : i < s.running.ports) (hj : j < s.running.ports) where
@@ -141,5 +141,5 @@ module _ {s : Switch} {store : List ℕ} (ok : Sound s store) (valid : valid_of 
     step_other_law l ne = go (step_verdict s (length l)) refl
       where
         go : (v : Verdict) → step_verdict s (length l) ≡ v → Law (answered s store (step (other l)))
-        go (Ok _) e = absurd (refused_other l ne e)
+        go (Ok tt) e = absurd (refused_other l ne e)
         go (Err r) e = rw e (refused_law ok i j hi hj _ refl refl (refused_step i j (other l) r s))

@@ -2,7 +2,7 @@
 use Prim.Native.Nat.{ℕ, suc, ◌+◌, ◌*◌, ◌<◌, ◌≤◌, min}
 use mathlib.Core.Path.{◌≡◌, refl, ap, sym, subst, ◌∙◌}
 use mathlib.Core.Bool.{Bool, true, false, cond}
-use mathlib.Core.Logic.{◌⊎◌, ⊎_elim}
+use mathlib.Core.Logic.{⊎_elim}
 use mathlib.Core.List.{List, []}
 use native.Mathlib.Decide.{ℕ_discrete}
 use native.Mathlib.Omega.{arith}
@@ -10,6 +10,7 @@ use native.Mathlib.Numerals.{add-one}
 use native.Mathlib.Nat.{lt_of_mul-lt-mul_right}
 use lib.ListN.{length, get_or}
 use borrow.Author.Tests.{eqb-true, eqb-false, ne_eqb}
+use Rattle.std.specs.Prelude.{Option, Some, None}
 use Rattle.plan.specs.Range.{most_ports, most_flows}
 use Rattle.plan.specs.Lines.{flow_of}
 use Rattle.plan.specs.Desk.{row_of}
@@ -17,8 +18,6 @@ use Rattle.plan.proofs.BelowLaws.{lt_or_le}
 use Rattle.multiplexer.specs.Choose.{choose_of}
 use Rattle.multiplexer.specs.Count.{services_of, counts_after, cleared_below}
 use Rattle.multiplexer.specs.Window.{column_of}
-use Rattle.multiplexer.specs.declared.Choice.{Choice}
-use Rattle.multiplexer.specs.declared.Choice.TheVariants.{Idle, Flow}
 use Rattle.multiplexer.specs.declared.Multiplexer.{Multiplexer}
 use Rattle.multiplexer.proofs.CountLaws.{services_le_one, served_flow, flow_served, cleared_starts, cleared_zero}
 use Rattle.multiplexer.proofs.PacedLaws.{Paced, paced_start, paced_step, paced_count, paced_end, paced_early, paced_late, paced_full, paced_fits, chosen_eligible}
@@ -46,10 +45,10 @@ use Rattle.runs.proofs.SlotLaws.Next.{goes_on, ends}
 use Rattle.runs.proofs.TurnLaws.{other_move, other_send, BoardTurn, HeadTurn, empties, board_idle, board_serves, head_idle, head_serves}
 use Rattle.runs.proofs.SoundLaws.{Sound, board_near, head_near, row_is, column_is, two_between}
 
-idle_not_flow : (f : ℕ) → Idle ≡ Flow f → ⊥
+idle_not_flow : (f : ℕ) → None ≡ Some f → ⊥
 idle_not_flow f e = let z : ◌≡◌ {A = ℕ} 0 1 = cc in omega arith
 
-flow_is : (f g : ℕ) → Flow f ≡ Flow g → f ≡ g
+flow_is : (f g : ℕ) → Some f ≡ Some g → f ≡ g
 flow_is f g e = cc
 
 module _ {u : Switch} {store : List ℕ} (ok : Sound u store) where
@@ -97,18 +96,18 @@ module _ {u : Switch} {store : List ℕ} (ok : Sound u store) where
   heads_can = record { few_ports = ok.plan.few_ports; named = head_names }
 
   -- a flow that is served is not ahead of its share
-  board_may : (i j : ℕ) → i < n → j < n → choice_at (board_choices u) i ≡ Flow j → board_count u i j * T ≤ u.slot * rate_at u.running i j
+  board_may : (i j : ℕ) → i < n → j < n → choice_at (board_choices u) i ≡ Some j → board_count u i j * T ≤ u.slot * rate_at u.running i j
   board_may i j hi hj c =
       rw (row_rate (plan_rates u.running) n i j hj) at
       (chosen_eligible (row i) (board_ks i) T u.slot j (sym (board_chooses i hi) ∙ c)).3
 
-  head_may : (i j : ℕ) → i < n → j < n → choice_at (head_choices u) j ≡ Flow i → head_count u i j * T ≤ u.slot * rate_at u.running i j
+  head_may : (i j : ℕ) → i < n → j < n → choice_at (head_choices u) j ≡ Some i → head_count u i j * T ≤ u.slot * rate_at u.running i j
   head_may i j hi hj c =
       rw (column_rate (plan_rates u.running) n i j hi) at
       (chosen_eligible (column j) (head_ks j) T u.slot i (sym (head_chooses j hj) ∙ c)).3
 
   -- a crosspoint that its board serves has room
-  room_there : (i j : ℕ) → i < n → j < n → choice_at (board_choices u) i ≡ Flow j → (point_at u (flow_of n i j)).count < 2
+  room_there : (i j : ℕ) → i < n → j < n → choice_at (board_choices u) i ≡ Some j → (point_at u (flow_of n i j)).count < 2
   room_there i j hi hj c =
       let close : board_count u i j * T < (head_count u i j + 1) * T = omega (arith, board_may i j hi hj c, (head_near ok i j hi hj).late) in
       omega (arith, lt_of_mul-lt-mul_right T {m = board_count u i j} {n = head_count u i j + 1} close, ok.balanced i j hi hj)
@@ -137,10 +136,10 @@ module _ {u : Switch} {store : List ℕ} (ok : Sound u store) where
     z = get_or sends.crosspoints k no_point
 
     abbrev board_answer : Answer
-    board_answer = answer_of moves.ports i
+    board_answer = answer_of moves.answers i
 
     abbrev head_answer : Answer
-    head_answer = answer_of sends.ports j
+    head_answer = answer_of sends.answers j
 
     abbrev b : ℕ
     b = services_of (choice_at (board_choices u) i) j
@@ -155,29 +154,29 @@ module _ {u : Switch} {store : List ℕ} (ok : Sound u store) where
     board_there : Board b
     board_there = go (choice_at (board_choices u) i) refl
       where
-        passed : (choice_at (board_choices u) i ≡ Flow j → ⊥) → (services : ℕ) → services ≡ 0 → cells_with j board_answer ≡ [] → empties j board_answer ≡ 0 → Board services
+        passed : (choice_at (board_choices u) i ≡ Some j → ⊥) → (services : ℕ) → services ≡ 0 → cells_with j board_answer ≡ [] → empties j board_answer ≡ 0 → Board services
         passed ne services e none dry =
             let is = moves_passed n u.depth store (board_choices u) u.fabric.queues u.fabric.crosspoints board_names i j hj ne in
             rw (e, is.queue, is.point, none, dry) (board_idle store u.depth k (queue_at u k) (point_at u k) (ok.place i j hi hj) (ok.two_places i j hi hj))
 
-        serves : choice_at (board_choices u) i ≡ Flow j → Board 1
+        serves : choice_at (board_choices u) i ≡ Some j → Board 1
         serves c =
             let m = moves_served n u.depth store (board_choices u) u.fabric.queues u.fabric.crosspoints boards_can ok.queues_size ok.points_size i j hi c in
             rw (m.flow.queue, m.flow.point, m.answer)
             (board_serves store u.depth k j (queue_at u k) (point_at u k) ok.some_depth (ok.place i j hi hj) (ok.two_places i j hi hj) (λ _. room_there i j hi hj c))
 
-        go : (c : Choice) → choice_at (board_choices u) i ≡ c → Board b
-        go Idle e =
+        go : (c : Option ℕ) → choice_at (board_choices u) i ≡ c → Board b
+        go None e =
             let a = moves_answer_idle n u.depth store (board_choices u) u.fabric.queues u.fabric.crosspoints i hi e in
-            passed (λ c. idle_not_flow j (sym e ∙ c)) b (ap (λ (c : Choice). services_of c j) e) (ap (cells_with j) a) (ap (empties j) a)
-        go (Flow g) e = at (ℕ_discrete g j)
+            passed (λ c. idle_not_flow j (sym e ∙ c)) b (ap (λ (c : Option ℕ). services_of c j) e) (ap (cells_with j) a) (ap (empties j) a)
+        go (Some g) e = at (ℕ_discrete g j)
           where
             at : Dec (g ≡ j) → Board b
-            at (yes same) = let c = e ∙ ap Flow same in subst Board (sym (ap (λ (c : Choice). services_of c j) c ∙ flow_served j)) (serves c)
+            at (yes same) = let c = e ∙ ap Some same in subst Board (sym (ap (λ (c : Option ℕ). services_of c j) c ∙ flow_served j)) (serves c)
             at (no ne) =
                 let m = moves_served n u.depth store (board_choices u) u.fabric.queues u.fabric.crosspoints boards_can ok.queues_size ok.points_size i g hi e in
                 let silent = other_move u.depth g j _ (queue_at u (flow_of n i g)) (point_at u (flow_of n i g)) ne in
-                passed (λ c. ne (flow_is g j (sym e ∙ c))) b (ap (λ (c : Choice). services_of c j) e ∙ rw (ne_eqb g j ne) refl)
+                passed (λ c. ne (flow_is g j (sym e ∙ c))) b (ap (λ (c : Option ℕ). services_of c j) e ∙ rw (ne_eqb g j ne) refl)
                 (ap (cells_with j) m.answer ∙ silent.0) (ap (empties j) m.answer ∙ silent.1)
 
     abbrev Head : ℕ → Type 0
@@ -199,27 +198,27 @@ module _ {u : Switch} {store : List ℕ} (ok : Sound u store) where
     head_there : Head h
     head_there = go (choice_at (head_choices u) j) refl
       where
-        passed : (choice_at (head_choices u) j ≡ Flow i → ⊥) → (services : ℕ) → services ≡ 0 → cells_with i head_answer ≡ [] → empties i head_answer ≡ 0 → Head services
+        passed : (choice_at (head_choices u) j ≡ Some i → ⊥) → (services : ℕ) → services ≡ 0 → cells_with i head_answer ≡ [] → empties i head_answer ≡ 0 → Head services
         passed ne services e none dry =
             rw (e, sends_passed n (head_choices u) moves.crosspoints i j hj ne, none, dry) (head_idle y y_size)
 
-        serves : choice_at (head_choices u) j ≡ Flow i → Head 1
+        serves : choice_at (head_choices u) j ≡ Some i → Head 1
         serves c =
             let m = sends_served n (head_choices u) moves.crosspoints heads_can points_full i j hj c in
             rw (m.point, m.answer) (head_serves i y y_size y_small)
 
-        go : (c : Choice) → choice_at (head_choices u) j ≡ c → Head h
-        go Idle e =
+        go : (c : Option ℕ) → choice_at (head_choices u) j ≡ c → Head h
+        go None e =
             let a = sends_answer_idle n (head_choices u) moves.crosspoints j hj e in
-            passed (λ c. idle_not_flow i (sym e ∙ c)) h (ap (λ (c : Choice). services_of c i) e) (ap (cells_with i) a) (ap (empties i) a)
-        go (Flow g) e = at (ℕ_discrete g i)
+            passed (λ c. idle_not_flow i (sym e ∙ c)) h (ap (λ (c : Option ℕ). services_of c i) e) (ap (cells_with i) a) (ap (empties i) a)
+        go (Some g) e = at (ℕ_discrete g i)
           where
             at : Dec (g ≡ i) → Head h
-            at (yes same) = let c = e ∙ ap Flow same in subst Head (sym (ap (λ (c : Choice). services_of c i) c ∙ flow_served i)) (serves c)
+            at (yes same) = let c = e ∙ ap Some same in subst Head (sym (ap (λ (c : Option ℕ). services_of c i) c ∙ flow_served i)) (serves c)
             at (no ne) =
                 let m = sends_served n (head_choices u) moves.crosspoints heads_can points_full g j hj e in
                 let silent = other_send g i (get_or moves.crosspoints (flow_of n g j) no_point) ne in
-                passed (λ c. ne (flow_is g i (sym e ∙ c))) h (ap (λ (c : Choice). services_of c i) e ∙ rw (ne_eqb g i ne) refl)
+                passed (λ c. ne (flow_is g i (sym e ∙ c))) h (ap (λ (c : Option ℕ). services_of c i) e ∙ rw (ne_eqb g i ne) refl)
                 (ap (cells_with i) m.answer ∙ silent.0) (ap (empties i) m.answer ∙ silent.1)
 
     -- the two counts of the flow, with this slot's services, in a frame that goes on or ends
@@ -232,14 +231,14 @@ module _ {u : Switch} {store : List ℕ} (ok : Sound u store) where
     board_counted : get_or board_after j 0 ≡ board_count u i j + b
     board_counted =
         paced_count (ok.boards i hi) ok.in_frame j (omega (arith, row_is ok i j hi hj))
-        ∙ ap (λ (c : Choice). board_count u i j + services_of c j) (sym (board_chooses i hi))
+        ∙ ap (λ (c : Option ℕ). board_count u i j + services_of c j) (sym (board_chooses i hi))
 
     head_counted : get_or head_after i 0 ≡ head_count u i j + h
     head_counted =
         paced_count (ok.heads j hj) ok.in_frame i (omega (arith, column_is ok i j hi hj))
-        ∙ ap (λ (c : Choice). head_count u i j + services_of c i) (sym (head_chooses j hj))
+        ∙ ap (λ (c : Option ℕ). head_count u i j + services_of c i) (sym (head_chooses j hj))
 
-  port_served : (e : Bool) (c : Choice) (m : Multiplexer) → (port_after n e c m).served ≡ cond e (cleared_below (counts_after m.served c) (min n most_ports)) (counts_after m.served c)
+  port_served : (e : Bool) (c : Option ℕ) (m : Multiplexer) → (port_after n e c m).served ≡ cond e (cleared_below (counts_after m.served c) (min n most_ports)) (counts_after m.served c)
   port_served true c m = refl
   port_served false c m = refl
 
@@ -336,8 +335,8 @@ module _ {u : Switch} {store : List ℕ} (ok : Sound u store) where
         (b i j hi hj) (h i j hi hj)
         (queue_at u (flow_of n i j)) (get_or (slot_moves u store).queues (flow_of n i j) no_queue)
         (point_at u (flow_of n i j)) (get_or (slot_moves u store).crosspoints (flow_of n i j) no_point) (get_or (slot_sends u store).crosspoints (flow_of n i j) no_point)
-        (cells_with j (answer_of (slot_moves u store).ports i)) (cells_with i (answer_of (slot_sends u store).ports j))
-        (empties j (answer_of (slot_moves u store).ports i)) (empties i (answer_of (slot_sends u store).ports j))
+        (cells_with j (answer_of (slot_moves u store).answers i)) (cells_with i (answer_of (slot_sends u store).answers j))
+        (empties j (answer_of (slot_moves u store).answers i)) (empties i (answer_of (slot_sends u store).answers j))
     flow_slot =
         record {
           some_slot = ok.plan.some_slot;

@@ -11,7 +11,7 @@ use lib.ListN.{length, get_or, set, length-set}
 use borrow.Author.Tests.{eq-eqb, ne_eqb}
 use Rattle.fabric.specs.Flow.{cell_place}
 use Rattle.fabric.specs.Answer.{cells_with, empty_with}
-use Rattle.fabric.specs.Moves.{move_of, shorter}
+use Rattle.fabric.specs.Moves.{move_of}
 use Rattle.fabric.specs.Sends.{send_of}
 use Rattle.fabric.specs.declared.flow.Answer.{Answer}
 use Rattle.fabric.specs.declared.flow.Queue.{Queue}
@@ -68,7 +68,7 @@ empties p a = cond (empty_with p a) 1 0
 
 module _ (store : List ℕ) (depth k j : ℕ) (q : Queue) (x : Crosspoint) (some : 1 ≤ depth) (hp : q.place < depth) (hx : length x.cells ≡ 2) where
   abbrev After : Move → Type 0
-  After r = BoardTurn store depth k q r.queue x r.point 1 (cells_with j r.port.answer) (empties j r.port.answer)
+  After r = BoardTurn store depth k q r.queue x r.point 1 (cells_with j r.answer) (empties j r.answer)
 
   pub board_serves : (1 ≤ q.count → x.count < 2) → After (move_of depth j (get_or store (cell_place depth k q 0) 0) q x)
   board_serves room =
@@ -87,7 +87,7 @@ module _ (store : List ℕ) (depth k j : ℕ) (q : Queue) (x : Crosspoint) (some
 
 module _ (i : ℕ) (x : Crosspoint) (hx : length x.cells ≡ 2) (two : x.count ≤ 2) where
   abbrev Sent : Send → Type 0
-  Sent r = HeadTurn x r.point 1 (cells_with i r.port.answer) (empties i r.port.answer)
+  Sent r = HeadTurn x r.point 1 (cells_with i r.answer) (empties i r.answer)
 
   up_size : (b : Bool) → length (cond b (set (set x.cells 0 (get_or x.cells 1 0)) 1 0) (set x.cells 0 0)) ≡ 2
   up_size true = length-set (set x.cells 0 (get_or x.cells 1 0)) 1 0 ∙ length-set x.cells 0 _ ∙ hx
@@ -110,9 +110,9 @@ module _ (i : ℕ) (x : Crosspoint) (hx : length x.cells ≡ 2) (two : x.count �
 abbrev Silent : ℕ → Answer → Type 0
 Silent p a = (cells_with p a ≡ []) × (empties p a ≡ 0)
 
-pub other_move : (depth g j cell : ℕ) (q : Queue) (x : Crosspoint) → (g ≡ j → ⊥) → Silent j (move_of depth g cell q x).port.answer
+pub other_move : (depth g j cell : ℕ) (q : Queue) (x : Crosspoint) → (g ≡ j → ⊥) → Silent j (move_of depth g cell q x).answer
 other_move depth g j cell q x ne =
-    move_case (λ r. Silent j r.port.answer) depth g cell q x (λ _. rw (ne_eqb g j ne) (refl, refl)) (λ _. rw (ne_eqb g j ne) (refl, refl))
+    move_case (λ r. Silent j r.answer) depth g cell q x (λ _. rw (ne_eqb g j ne) (refl, refl)) (λ _. rw (ne_eqb g j ne) (refl, refl))
 
-pub other_send : (g i : ℕ) (x : Crosspoint) → (g ≡ i → ⊥) → Silent i (send_of g x).port.answer
-other_send g i x ne = send_case (λ r. Silent i r.port.answer) g x (λ _. rw (ne_eqb g i ne) (refl, refl)) (λ _. rw (ne_eqb g i ne) (refl, refl))
+pub other_send : (g i : ℕ) (x : Crosspoint) → (g ≡ i → ⊥) → Silent i (send_of g x).answer
+other_send g i x ne = send_case (λ r. Silent i r.answer) g x (λ _. rw (ne_eqb g i ne) (refl, refl)) (λ _. rw (ne_eqb g i ne) (refl, refl))

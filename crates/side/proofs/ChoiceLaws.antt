@@ -9,33 +9,30 @@ use native.Mathlib.Omega.{arith}
 use lib.Dec.{eqb}
 use lib.ListN.{length, get_or, set, replicate, length-set}
 use lib.Seq.{get_or-set_same, get_or-set_other}
+use Rattle.std.specs.Prelude.{Option, None}
 use Rattle.plan.specs.Range.{most_ports}
 use Rattle.plan.specs.Desk.{desk_of}
 use Rattle.plan.proofs.BelowLaws.{below_or_last}
 use Rattle.plan.proofs.DeskLaws.{desk_row}
 use Rattle.multiplexer.specs.Choose.{choose_of}
 use Rattle.multiplexer.specs.Serve.{serve_of}
-use Rattle.multiplexer.specs.declared.Choice.{Choice}
-use Rattle.multiplexer.specs.declared.Choice.TheVariants.{Idle}
 use Rattle.multiplexer.specs.declared.Multiplexer.{Multiplexer}
 use Rattle.multiplexer.specs.declared.Served.{Served}
 use Rattle.multiplexer.proofs.PacedLaws.{chosen_eligible}
 use Rattle.multiplexer.proofs.PortLaws.{row_length}
-use Rattle.side.specs.Choices.{no_multiplexer, choices_of, choice_at, CanChoose, choice_of, ServedAs}
+use Rattle.side.specs.Choices.{no_multiplexer, choices_of, choice_at, CanChoose, ServedAs}
 use Rattle.side.specs.Counts.{counts_of, ports_below}
-use Rattle.side.specs.declared.choices.Turn.{Turn}
 use Rattle.side.specs.declared.choices.Side.{Side}
 use Rattle.side.proofs.CountLaws.{counted_is}
 use Rattle.side.proofs.TouchLaws.{done}
-use Rattle.side.proofs.TurnLaws.{no_turn, turns_idle, turns_set}
 
 module _ (line : ℕ → List ℕ) (ports : List Multiplexer) (t slot : ℕ) where
   -- the ports below m
-  abbrev after : ℕ → List Choice
+  abbrev after : ℕ → List (Option ℕ)
   after m = choices_of line ports t slot m
 
   -- port p's own choice
-  abbrev choice : ℕ → Choice
+  abbrev choice : ℕ → Option ℕ
   choice p = choose_of (line p) (get_or ports p no_multiplexer).served t slot
 
   choices_length : (m : ℕ) → length (after m) ≡ most_ports
@@ -45,11 +42,11 @@ module _ (line : ℕ → List ℕ) (ports : List Multiplexer) (t slot : ℕ) whe
 
   other : (m k : ℕ) → (k ≡ m → ⊥) → choice_at (after (suc m)) k ≡ choice_at (after m) k
   unfolding choices_of
-  other m k h = get_or-set_other (after m) m k (choice m) Idle h
+  other m k h = get_or-set_other (after m) m k (choice m) None h
 
   pub choices_at : (m p : ℕ) → p < m → m ≤ most_ports → choice_at (after m) p ≡ choice p
   unfolding choices_of
-  choices_at m p l few = done (λ m k. choice_at (after m) k) other m p l ∙ get_or-set_same (after p) p (choice p) Idle (omega (arith, choices_length p))
+  choices_at m p l few = done (λ m k. choice_at (after m) k) other m p l ∙ get_or-set_same (after p) p (choice p) None (omega (arith, choices_length p))
 
   -- a port of n flows names one of them
   pub choices_named : (n : ℕ) → n ≤ most_ports → ((p : ℕ) → p < n → length (line p) ≡ n) → CanChoose n (after n)
@@ -73,29 +70,29 @@ module _ (line : ℕ → List ℕ) (ports : List Multiplexer) (t slot : ℕ) whe
     pub full : length s.ports ≡ most_ports
     pub later : (p : ℕ) → m ≤ p → get_or s.ports p no_multiplexer ≡ get_or ports p no_multiplexer
 
-  pub served_none : length ports ≡ most_ports → ServedBelow 0 (record { ports = ports; turns = replicate most_ports no_turn })
+  pub served_none : length ports ≡ most_ports → ServedBelow 0 (record { ports = ports; choices = replicate most_ports None })
   unfolding choices_of
   served_none full =
       record {
-        so_far = record { choices = turns_idle most_ports; served = λ p l. absurd (omega arith) };
+        so_far = record { choices = refl; served = λ p l. absurd (omega arith) };
         full = full;
         later = λ p l. refl;
       }
 
   -- one port more
-  module _ (m : ℕ) (s : Side) (before : ServedBelow m s) (rates : List ℕ) (r : Served) (turn : Turn)
-      (small : m < most_ports) (rules : rates ≡ line m) (is : r ≡ serve_of (get_or s.ports m no_multiplexer) rates t slot) (says : choice_of turn ≡ r.choice)
+  module _ (m : ℕ) (s : Side) (before : ServedBelow m s) (rates : List ℕ) (r : Served) (choice : Option ℕ)
+      (small : m < most_ports) (rules : rates ≡ line m) (is : r ≡ serve_of (get_or s.ports m no_multiplexer) rates t slot) (says : choice ≡ r.choice)
     where
       own : r ≡ serve_of (get_or ports m no_multiplexer) (line m) t slot
       own = is ∙ (rw (rules, before.later m (omega arith)) refl)
 
-      pub served_next : ServedBelow (m + 1) (record { ports = set s.ports m r.port; turns = set s.turns m turn })
+      pub served_next : ServedBelow (m + 1) (record { ports = set s.ports m r.port; choices = set s.choices m choice })
       unfolding choices_of
       served_next =
           record {
             so_far =
                 record {
-                  choices = rw add-one (turns_set s.turns m turn r.choice says ∙ (rw (before.so_far.choices, own) refl));
+                  choices = rw (add-one, says, before.so_far.choices, own) refl;
                   served = λ p l.
                       ⊎_elim
                       (λ (b : p < m). get_or-set_other s.ports m p r.port no_multiplexer (λ e. omega arith) ∙ before.so_far.served p b)

@@ -7,14 +7,14 @@ use native.Mathlib.Numerals.{add-one}
 use native.Mathlib.Omega.{arith}
 use lib.ListN.{length, get_or, set, length-set}
 use lib.Seq.{get_or-set_same, get_or-set_other}
-use Rattle.multiplexer.specs.declared.Choice.{Choice}
+use Rattle.std.specs.Prelude.{Option}
 use Rattle.multiplexer.specs.declared.Multiplexer.{Multiplexer}
 use Rattle.side.specs.Choices.{no_multiplexer, choice_at}
 use Rattle.multiplexer.specs.Serve.{port_after}
 use Rattle.side.specs.Counts.{counts_of, ports_below}
 use Rattle.side.proofs.TouchLaws.{done}
 
-module _ (n : ℕ) (ends : Bool) (choices : List Choice) (ports : List Multiplexer) where
+module _ (n : ℕ) (ends : Bool) (choices : List (Option ℕ)) (ports : List Multiplexer) where
   -- the ports below m
   abbrev after : ℕ → List Multiplexer
   after m = counts_of n ends choices ports m

@@ -2,7 +2,6 @@ pub mod ListLaws
 pub mod TouchLaws
 pub mod LoopLaws
 pub mod PlaceLaws
-pub mod TurnLaws
 pub mod CountLaws
 pub mod NameLaws
 pub mod ChoiceLaws

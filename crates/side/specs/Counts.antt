@@ -1,12 +1,11 @@
 -- The service counts after a slot: "At the end of slot T − 1 the slot number and all service counts return to 0."
-use Rattle.std.specs.Prelude.{ℕ, zero, suc, Bool, List, get_or, set}
+use Rattle.std.specs.Prelude.{ℕ, zero, suc, Bool, List, get_or, set, Option}
 use Rattle.multiplexer.specs.Serve.{port_after}
-use Rattle.multiplexer.specs.declared.Choice.{Choice}
 use Rattle.multiplexer.specs.declared.Multiplexer.{Multiplexer}
 use Rattle.side.specs.Choices.{no_multiplexer, choice_at}
 
 -- the ports below m
-unfoldable pub counts_of : ℕ → Bool → List Choice → List Multiplexer → ℕ → List Multiplexer
+unfoldable pub counts_of : ℕ → Bool → List (Option ℕ) → List Multiplexer → ℕ → List Multiplexer
 counts_of n ends choices ports zero = ports
 counts_of n ends choices ports (suc m) =
     set (counts_of n ends choices ports m) m (port_after n ends (choice_at choices m) (get_or ports m no_multiplexer))

@@ -2,41 +2,19 @@
 ghost use Rattle.std.specs.Prelude.{◌≡◌, ◌≤◌};
 ghost use Rattle.plan.specs.Range.{most_ports};
 ghost use Rattle.plan.specs.Desk.{desk_of};
-ghost use Rattle.side.specs.Choices.{ChoosesPort, choice_of, ServedAs};
+ghost use Rattle.side.specs.Choices.{ServedAs};
 
+use multiplexer::Multiplexer;
 use multiplexer::deadlines::deadline_table;
-use multiplexer::{Choice, Multiplexer};
 use plan::desk::desk_view;
 use plan::range::MOST_PORTS;
 
-// A choice in two bytes, so that a list of them is short to copy: whether the port serves another, and which.
-#[derive(Clone, Copy)]
-pub struct Turn {
-    pub serves: bool,
-    pub other: u8,
-}
-
-// The ports of one side after a slot, and their choices in it.
+// The ports of one side after a slot, and the port that each one serves in it, if any: by a byte, so that the list is short
+// to copy.
 #[derive(Clone, Copy)]
 pub struct Side {
     pub ports: [Multiplexer; MOST_PORTS],
-    pub turns: [Turn; MOST_PORTS],
-}
-
-fn turn_of(choice: Choice) -> Turn
-    requires { ChoosesPort choice }
-    ensures { choice_of result ≡ choice }
-{
-    let Choice::Flow(other) = choice else {
-        return Turn {
-            serves: false,
-            other: 0,
-        };
-    };
-    Turn {
-        serves: true,
-        other: other as u8,
-    }
+    pub choices: [Option<u8>; MOST_PORTS],
 }
 
 // The slot of the ports below n, by their rows of the list that rules it. Boards and heads share this one function: the
@@ -53,25 +31,17 @@ pub fn serve_all<'a>(
     requires { n ≤ most_ports }
     ensures { ServedAs (λ p. desk_of running.now waiting.now n p takeover) ports t slot n result }
 {
-    let idle = [Turn {
-        serves: false,
-        other: 0,
-    }; MOST_PORTS];
     let mut side = Side {
-        ports: ports,
-        turns: idle,
+        ports,
+        choices: [None; MOST_PORTS],
     };
     // In every frame, though it is read only where T is 64: a branch makes that frame slower (docs/PERFORMANCE.md).
-    let entries = deadline_table();
-    let table: &[u8] = &entries;
+    let table = deadline_table();
     for p in 0..n {
-        let port = side.ports[p];
-        let served = port.serve_with(desk_view(running, waiting, n, p, takeover), t, slot, table);
-        let after = served.port;
-        let choice = served.choice;
-        let turn = turn_of(choice);
-        side.ports[p] = after;
-        side.turns[p] = turn;
+        let desk = desk_view(running, waiting, n, p, takeover);
+        let served = side.ports[p].serve_with(desk, t, slot, &table);
+        side.ports[p] = served.port;
+        side.choices[p] = served.choice.map(|f| f as u8);
     }
     side
 }

@@ -1,6 +1,5 @@
 pub mod RecordLaws
 pub mod StretchLaws
-pub mod LineLaws
 pub mod PrintoutLaws
 pub mod RoomLaws
 pub mod Examples

@@ -37,10 +37,6 @@ module _ (recorded : List ℕ) (j i a T : ℕ) where
   abbrev pub stretch_line : ℕ → List ℕ
   stretch_line k = cond (counts (stretches_of T) k) (line_of j i a (length_at T k) T (cover_of recorded i (length_at T k))) []
 
-  pub by_stretches : flow_lines_of recorded j i a T ≡ text_below stretch_line stretches
-  unfolding flow_lines_of
-  by_stretches = refl
-
   pub no_stretch : (k : ℕ) → counts (stretches_of T) k ≡ false → stretch_line k ≡ []
   no_stretch k e = rw e refl
 

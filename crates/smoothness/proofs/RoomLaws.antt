@@ -16,7 +16,6 @@ use Rattle.multiplexer.proofs.PortLaws.{column_length}
 use Rattle.meter.specs.Bound.{least_bound, most_bound}
 use Rattle.meter.specs.Search.{cover_of}
 use Rattle.meter.specs.declared.Measured.{Measured}
-use Rattle.console.specs.Text.{HasRoom}
 use Rattle.console.specs.TextBelow.{text_below}
 use Rattle.console.proofs.DigitLaws.{digits_within}
 use Rattle.console.proofs.TextLaws.{refusal_short, either_short}
@@ -24,7 +23,7 @@ use Rattle.console.proofs.TextBelowLaws.{below_short}
 use Rattle.smoothness.specs.Head.{board_lines_of}
 use Rattle.smoothness.specs.Printout.{line_of, stretches, stretches_of, counts, flow_lines_of, three_frames_of, head_lines_of, printout_of, line_room, printout_room}
 use Rattle.smoothness.proofs.StretchLaws.{length_at}
-use Rattle.smoothness.proofs.PrintoutLaws.{stretch_line, by_stretches, head_by_rates}
+use Rattle.smoothness.proofs.PrintoutLaws.{stretch_line, head_by_rates}
 
 line_short : (j i a l T : ℕ) (m : Measured) → length (line_of j i a l T m) ≤ line_room
 unfolding line_of
@@ -52,10 +51,10 @@ abbrev flow_room : ℕ
 flow_room = stretches * line_room
 
 flow_short : (recorded : List ℕ) (j i a T : ℕ) → length (flow_lines_of recorded j i a T) ≤ flow_room
+unfolding flow_lines_of
 flow_short recorded j i a T =
-    rw (by_stretches recorded j i a T)
-    (below_short (stretch_line recorded j i a T) line_room stretches
-    (λ k _. maybe_short line_room (counts (stretches_of T) k) _ (line_short j i a (length_at T k) T (cover_of recorded i (length_at T k)))))
+    below_short (stretch_line recorded j i a T) line_room stretches
+    (λ k _. maybe_short line_room (counts (stretches_of T) k) _ (line_short j i a (length_at T k) T (cover_of recorded i (length_at T k))))
 
 abbrev head_room : ℕ
 head_room = most_ports * flow_room
@@ -72,14 +71,10 @@ module _ (plan : Plan) (few : plan.ports ≤ most_ports) where
   heads_short : length (text_below (head_lines_of plan) plan.ports) ≤ most_ports * head_room
   heads_short = omega (arith, below_short (head_lines_of plan) head_room plan.ports (λ j _. head_short j))
 
-printout_short : (file : List ℕ) → length (printout_of file) ≤ printout_room
+pub printout_short : (file : List ℕ) → length (printout_of file) ≤ printout_room
 unfolding printout_of
 printout_short file =
     let r = read_of file in
     either_short printout_room r.verdict _ _
     (λ e. omega (arith, heads_short r.plan (accepted_plan file e).is_plan.few_ports))
     (omega (arith, refusal_short r.verdict))
-
--- so a buffer of that many bytes has room for every printout
-pub printout_room_lem : (file buffer : List ℕ) → length buffer ≡ printout_room → HasRoom buffer 0 (printout_of file)
-printout_room_lem file buffer long = omega (arith, printout_short file)

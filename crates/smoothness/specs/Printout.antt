@@ -14,7 +14,7 @@ use Rattle.meter.specs.Record.{record_from}
 use Rattle.meter.specs.Search.{cover_of}
 use Rattle.meter.specs.Bound.{least_bound, most_bound}
 use Rattle.meter.specs.declared.Measured.{Measured}
-use Rattle.console.specs.Text.{decimal_of}
+use Rattle.console.specs.Text.{decimal_of, field_of}
 use Rattle.console.specs.TextBelow.{text_below}
 use Rattle.console.specs.Refused.{line_end, refusal_line_of}
 
@@ -24,10 +24,6 @@ header_text =
     111 ∷ 117 ∷ 116 ∷ 32 ∷ 105 ∷ 110 ∷ 32 ∷ 114 ∷ 97 ∷ 116 ∷ 101 ∷ 32 ∷ 115 ∷ 108 ∷ 111 ∷ 116 ∷ 115 ∷ 32
     ∷ 108 ∷ 101 ∷ 97 ∷ 115 ∷ 116 ∷ 32 ∷ 112 ∷ 114 ∷ 111 ∷ 109 ∷ 105 ∷ 115 ∷ 101 ∷ 100 ∷ 32
     ∷ 109 ∷ 111 ∷ 115 ∷ 116 ∷ 32 ∷ 112 ∷ 114 ∷ 111 ∷ 109 ∷ 105 ∷ 115 ∷ 101 ∷ 100 ∷ line_end
-
--- a number with the space that parts it from the field before
-abbrev pub field_of : ℕ → List ℕ
-field_of value = 32 ∷ decimal_of value
 
 -- the line of flow (i, j) with rate a, measured in l slots
 unfoldable pub line_of : ℕ → ℕ → ℕ → ℕ → ℕ → Measured → List ℕ

@@ -6,17 +6,15 @@ pub fn least_bound(l: u32, rate: u16, frame: u32) -> u64
     requires { 1 ≤ frame }
     ensures { result ≡ least_bound l rate frame }
 {
-    let whole = (l as u64 + 1) * (rate as u64) / (frame as u64);
-    if whole == 0 {
-        return 0;
-    }
-    whole - 1
+    let whole = (u64::from(l) + 1) * u64::from(rate) / u64::from(frame);
+    whole.saturating_sub(1)
 }
 
+#[tactic(auto, using(console::proofs::CeilLaws::ceil_is, multiplexer::proofs::RoundLaws::quotient_rounded))]
 pub fn most_bound(l: u32, rate: u16, frame: u32) -> u64
     requires { (1 ≤ l) × (1 ≤ frame) }
     ensures { result ≡ most_bound l rate frame }
 {
-    let share = (l as u64 - 1) * (rate as u64);
-    (share + (frame as u64 - 1)) / (frame as u64) + 1
+    let share = (u64::from(l) - 1) * u64::from(rate);
+    share.div_ceil(u64::from(frame)) + 1
 }

@@ -1,31 +1,21 @@
-// The printout of a plan file, as a whole.
-ghost use Rattle.std.specs.Prelude.{◌≡◌, ◌*◌, ◌<◌, ◌≤◌, length};
+// The printout of a plan file, as a whole. Each function puts its lines behind those that a text has.
+ghost use Rattle.std.specs.Prelude.{◌≡◌, ◌+◌, ◌*◌, ◌<◌, ◌≤◌, ◌++◌, length};
+ghost use Rattle.arrayvec.specs.ArrayString.{array_string_len};
 ghost use Rattle.plan.specs.Range.{most_ports, most_slots};
-ghost use Rattle.console.specs.Text.{HasRoom, Written};
 ghost use Rattle.console.specs.TextBelow.{text_below};
-ghost use Rattle.smoothness.specs.Printout.{stretches, counts, flow_lines_of, head_lines_of, printout_of};
+ghost use Rattle.smoothness.specs.Printout.{stretches, counts, flow_lines_of, head_lines_of, printout_of, printout_room};
 ghost use Rattle.smoothness.specs.Head.{flows_lines_of, rates_lines_of};
 
-use crate::line::line;
+use crate::line::{Flow, line};
 use crate::record::{RECORD_ROOM, record_frames};
-use console::text::{put, refusal_line};
+use crate::room::{STRETCHES, Text};
+use console::text::refusal_line;
 use meter::cover;
 use plan::Plan;
 use plan::desk::desk_view;
-use plan::range::{MOST_FLOWS, MOST_PORTS};
+use plan::range::MOST_FLOWS;
 use planfile::read;
 use side::columns::transpose;
-
-// In how many lengths a flow is measured.
-const STRETCHES: usize = 4;
-
-const HEADER_ROOM: usize = 47;
-
-// Eight numbers of at most 20 digits, with a space or LF behind each.
-const LINE_ROOM: usize = 8 * 21;
-
-// Room for every printout.
-pub const PRINTOUT_ROOM: usize = HEADER_ROOM + MOST_PORTS * (MOST_PORTS * (STRETCHES * LINE_ROOM));
 
 // Whether the length at place k is 1 or more, and stands at no place before.
 fn counts(lengths: [u32; STRETCHES], k: usize) -> bool
@@ -33,104 +23,88 @@ fn counts(lengths: [u32; STRETCHES], k: usize) -> bool
     ensures { result ≡ counts lengths k }
 {
     let l = lengths[k];
-    if l == 0 {
-        return false;
-    }
-    for m in 0..k {
-        if lengths[m] == l {
-            return false;
-        }
-    }
-    true
+    l > 0 && !lengths[..k].contains(&l)
 }
 
-// The lines of flow (i, j), whose head has this record.
-fn flow_lines(
-    out: &mut [u8],
-    from: usize,
-    recorded: &[u16],
-    j: usize,
-    i: usize,
-    rate: u16,
-    frame: u32,
-) -> usize
-    requires { (1 ≤ frame) × (i < most_ports) × HasRoom out.old from (flow_lines_of recorded.now j i rate frame) }
-    ensures { Written out.old from (flow_lines_of recorded.now j i rate frame) out.new result }
+// The lines of a flow whose head has this record.
+#[tactic(auto, using(console::proofs::TextBelowLaws::put_below), unfolding(crate::specs::Printout::flow_lines_of))]
+fn flow_lines(out: &mut Text, recorded: &[u16], flow: Flow)
+    requires { (1 ≤ flow.frame) × (flow.board < most_ports) × (array_string_len out.old + length (flow_lines_of recorded.now flow.head flow.board flow.rate flow.frame) ≤ printout_room) }
+    ensures { out.new.bytes ≡ out.old.bytes ++ flow_lines_of recorded.now flow.head flow.board flow.rate flow.frame }
 {
+    let frame = flow.frame;
     let lengths = [1, frame / 4, frame / 2, frame];
-    let mut at = from;
     for k in 0..STRETCHES {
         if !counts(lengths, k) {
             continue;
         }
         let l = lengths[k];
-        let measured = cover(recorded, i as u16, l as usize);
-        at = line(out, at, j, i, rate, l, frame, measured);
+        let measured = cover(recorded, flow.board as u16, l as usize);
+        line(out, flow, l, measured);
     }
-    at
 }
 
-// The lines of all flows of head j, which has these rates and this record.
-fn flows_lines(
-    out: &mut [u8],
-    from: usize,
-    recorded: &[u16],
-    rates: &[u16],
-    j: usize,
-    frame: u32,
-) -> usize
-    requires { (1 ≤ frame) × (length rates.now ≤ most_ports) × HasRoom out.old from (flows_lines_of recorded.now rates.now j frame) }
-    ensures { Written out.old from (flows_lines_of recorded.now rates.now j frame) out.new result }
+// The lines of all flows of a head, which has these rates and this record.
+#[tactic(auto, using(console::proofs::TextBelowLaws::put_below))]
+fn flows_lines(out: &mut Text, recorded: &[u16], rates: &[u16], head: usize, frame: u32)
+    requires { (1 ≤ frame) × (length rates.now ≤ most_ports) × (array_string_len out.old + length (flows_lines_of recorded.now rates.now head frame) ≤ printout_room) }
+    ensures { out.new.bytes ≡ out.old.bytes ++ flows_lines_of recorded.now rates.now head frame }
 {
-    let mut at = from;
-    for i in 0..rates.len() {
-        let rate = rates[i];
+    for board in 0..rates.len() {
+        let rate = rates[board];
         if rate == 0 {
             continue;
         }
-        at = flow_lines(out, at, recorded, j, i, rate, frame);
+        let flow = Flow {
+            head,
+            board,
+            rate,
+            frame,
+        };
+        flow_lines(out, recorded, flow);
     }
-    at
 }
 
-// The lines of head j, whose record is made once for all of its flows.
-fn head_lines(out: &mut [u8], at: usize, rates: &[u16], j: usize, frame: u32) -> usize
-    requires { (1 ≤ frame) × (frame ≤ most_slots) × (length rates.now ≤ most_ports) × HasRoom out.old at (rates_lines_of rates.now j frame) }
-    ensures { Written out.old at (rates_lines_of rates.now j frame) out.new result }
+// The lines of a head, whose record is made once for all of its flows.
+fn head_lines(out: &mut Text, rates: &[u16], head: usize, frame: u32)
+    requires { (1 ≤ frame) × (frame ≤ most_slots) × (length rates.now ≤ most_ports) × (array_string_len out.old + length (rates_lines_of rates.now head frame) ≤ printout_room) }
+    ensures { out.new.bytes ≡ out.old.bytes ++ rates_lines_of rates.now head frame }
 {
     let mut recorded = [0u16; RECORD_ROOM];
     record_frames(rates, frame, &mut recorded);
-    flows_lines(out, at, &recorded[..3 * frame as usize], rates, j, frame)
+    flows_lines(out, &recorded[..3 * frame as usize], rates, head, frame);
 }
 
 // The lines of all heads.
-fn heads_lines(out: &mut [u8], from: usize, plan: Plan) -> usize
-    requires { (plan.ports ≤ most_ports) × (1 ≤ plan.frame) × (plan.frame ≤ most_slots) × HasRoom out.old from (text_below (head_lines_of plan) plan.ports) }
-    ensures { Written out.old from (text_below (head_lines_of plan) plan.ports) out.new result }
+#[tactic(auto, using(console::proofs::TextBelowLaws::put_below))]
+fn heads_lines(out: &mut Text, plan: Plan)
+    requires { (plan.ports ≤ most_ports) × (1 ≤ plan.frame) × (plan.frame ≤ most_slots) × (array_string_len out.old + length (text_below (head_lines_of plan) plan.ports) ≤ printout_room) }
+    ensures { out.new.bytes ≡ out.old.bytes ++ text_below (head_lines_of plan) plan.ports }
 {
     let n = plan.ports;
     let rates = plan.rates;
     let mut array = [0u16; MOST_FLOWS];
     transpose(&rates[..n * n], n, &mut array);
     let columns = &array[..n * n];
-    let mut at = from;
     for j in 0..n {
         let column = desk_view(columns, columns, n, j, false);
-        at = head_lines(out, at, column, j, plan.frame);
+        head_lines(out, column, j, plan.frame);
     }
-    at
 }
 
-// Puts the printout of a plan file at the start of the buffer, and answers how many bytes it has.
-pub fn printout(file: &[u8], out: &mut [u8; PRINTOUT_ROOM]) -> usize
-    ensures { Written out.old 0 (printout_of file.now) out.new result }
+// What is printed of a plan file.
+pub fn printout(file: &[u8]) -> Text
+    ensures { result.bytes ≡ printout_of file.now }
 {
+    let mut out = Text::new();
     let reading = read(file);
     let verdict = reading.verdict;
     let Ok(()) = verdict else {
-        return refusal_line(out, 0, verdict);
+        refusal_line(&mut out, verdict);
+        return out;
     };
-    let lines_at = put(out, 0, b"out in rate slots least promised most promised\n");
+    out.push_str("out in rate slots least promised most promised\n");
     let plan = reading.plan;
-    heads_lines(out, lines_at, plan)
+    heads_lines(&mut out, plan);
+    out
 }

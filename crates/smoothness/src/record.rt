@@ -5,20 +5,20 @@ ghost use Rattle.meter.specs.Record.{entry_of, next_slot};
 ghost use Rattle.smoothness.specs.Printout.{three_frames_of};
 
 use meter::IDLE_SLOT;
-use multiplexer::{Choice, Multiplexer};
+use multiplexer::Multiplexer;
 use plan::range::{MOST_PORTS, MOST_SLOTS};
 
 // Room for the record of three frames.
 pub const RECORD_ROOM: usize = 3 * MOST_SLOTS as usize;
 
-fn entry(choice: Choice) -> u16
+fn entry(choice: Option<usize>) -> u16
     requires { ChoosesPort choice }
     ensures { result ≡ entry_of choice }
 {
-    let Choice::Flow(flow) = choice else {
-        return IDLE_SLOT;
-    };
-    flow as u16
+    match choice {
+        Some(flow) => flow as u16,
+        None => IDLE_SLOT,
+    }
 }
 
 // After the last slot of a frame comes slot 0.
@@ -26,10 +26,7 @@ fn next_slot(slot: u32, frame: u32) -> u32
     requires { slot < frame }
     ensures { (result ≡ next_slot frame slot) × (result < frame) }
 {
-    if slot + 1 == frame {
-        return 0;
-    }
-    slot + 1
+    if slot + 1 == frame { 0 } else { slot + 1 }
 }
 
 // What a head with these rates serves in three frames, at the start of the list.

@@ -1,6 +1,10 @@
-use Rattle.std.proofs.Common.{rules}
-use Rattle.deadlines.proofs.RoomLaws.{printout_room_lem}
+use Rattle.std.proofs.Common.{arith, ap, length}
+use Rattle.console.proofs.TextBelowLaws.{below_room}
+use Rattle.deadlines.specs.Printout.{printout_of}
+use Rattle.deadlines.proofs.RoomLaws.{printout_short}
+use Rattle.deadlines.proofs.printout.printout.Invariants.{lines_at}
 use Rattle.deadlines.proofs.printout.printout.Goals as goal
 
-pub rates_lines-requires : goal.rates_lines-requires
-rates_lines-requires c = printout_room_lem _ (search rules)
+pub rate_lines-requires : goal.rate_lines-requires
+unfolding printout_of
+rate_lines-requires c = omega (arith, ap length c.new-out.ensures, below_room lines_at _ c.loop-b.invariant c.loop-b-test.true, printout_short)

@@ -8,4 +8,4 @@ returns-then-queue-eq0 c = simp (eq-eqb _ _ c.if-queue-eq0.true)
 
 pub returns : goal.returns
 unfolding move_of
-returns c = rw (c.ring_place-next.ensures.0, c.with_cell-filled.ensures) (simp (ne_eqb _ _ c.if-queue-eq0.false))
+returns c = rw (c.shorter.ensures, c.filled.ensures) (simp (ne_eqb _ _ c.if-queue-eq0.false))

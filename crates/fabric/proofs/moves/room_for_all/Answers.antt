@@ -1,27 +1,28 @@
-use mathlib.Core.Path.{sym, ◌∙◌}
-use native.Mathlib.Omega.{arith}
-use borrow.Author.Tests.{not-true, not-false}
+use Rattle.std.proofs.Common.{◌∙◌, sym, arith}
+use Rattle.std.proofs.lemmas.List.{length-take-le}
 use Rattle.plan.proofs.TestLaws.{failed, passed}
-use Rattle.side.proofs.TurnLaws.{turn_idle, turn_serves}
+use Rattle.side.proofs.NameLaws.{widened}
+use Rattle.fabric.proofs.LoopLaws.{among}
 use Rattle.fabric.proofs.MoveLaws.{room_start, room_all, room_idle_step, room_flow_step, room_fails}
 use Rattle.fabric.proofs.moves.room_for_all.Goals as goal
+use Rattle.fabric.proofs.moves.room_for_all.Goals.{in-Some+else-not-has_room, in_default}
 
 pub loop-i-init : goal.loop-i-init
-loop-i-init c = (omega arith, room_start _ _ _ _)
-
-pub loop-i-preserved-then-not-turn : goal.loop-i-preserved-then-not-turn
-loop-i-preserved-then-not-turn c = (omega arith, room_idle_step _ _ _ _ _ c.loop-i.invariant.1 (turn_idle _ _ (not-true _ c.if-not-turn.true)))
-
-pub flow_place-k-requires : goal.flow_place-k-requires
-flow_place-k-requires c =
-    let l = c.loop-i-test.true in
-    (c.requires.few_ports, l, c.requires.named _ _ l (turn_serves _ _ (not-false _ c.if-not-turn.false)))
+loop-i-init c = room_start _ _ _ _
 
 pub returns-then-not-has_room : goal.returns-then-not-has_room
-returns-then-not-has_room c = sym (room_fails _ _ _ _ _ _ _ c.loop-i-test.true (turn_serves _ _ (not-false _ c.if-not-turn.false)) c.flow_place-k.ensures.is (failed c.has_room.ensures c.if-not-has_room.true))
+returns-then-not-has_room c =
+    let here = among c.args.n c.loop-i.i c.args.choices (omega (arith, c.well_formed, c.requires.few_ports)) c.loop-i-test.true in
+    sym (room_fails _ _ _ _ _ _ _ here.0 (here.1 ∙ widened c.in-Some.is c.from.ensures) c.flow_place-k.ensures.is (failed c.has_room.ensures c.if-not-has_room.true))
 
 pub loop-i-preserved : goal.loop-i-preserved
-loop-i-preserved c = (omega arith, room_flow_step _ _ _ _ _ _ _ c.loop-i.invariant.1 (turn_serves _ _ (not-false _ c.if-not-turn.false)) c.flow_place-k.ensures.is (passed c.has_room.ensures c.if-not-has_room.false))
+loop-i-preserved c =
+    let here = among c.args.n c.loop-i.i c.args.choices (omega (arith, c.well_formed, c.requires.few_ports)) c.loop-i-test.true in
+    elim c.match-choice.branch [
+      in-Some+else-not-has_room w ↦ room_flow_step _ _ _ _ _ _ _ c.loop-i.invariant (here.1 ∙ widened w.in-Some.is w.from.ensures) w.flow_place-k.ensures.is (passed w.has_room.ensures w.if-not-has_room.false)
+    | in_default w ↦ room_idle_step _ _ _ _ _ c.loop-i.invariant (here.1 ∙ w.in_default.is)
+    ]
 
 pub returns : goal.returns
-returns c = sym c.loop-i.invariant.1 ∙ room_all _ _ _ _ _ (omega arith)
+returns c =
+    sym c.loop-i.invariant ∙ room_all _ _ _ _ _ (omega (arith, length-take-le c.args.n c.args.choices (omega (arith, c.well_formed, c.requires.few_ports)), c.loop-i-test.false))

@@ -1,4 +1,3 @@
-use mathlib.Core.Path.{refl}
 use borrow.Author.Tests.{eq-eqb, ne_eqb}
 use Rattle.fabric.specs.Sends.{send_of}
 use Rattle.fabric.proofs.sends.send_cell.Goals as goal
@@ -9,4 +8,4 @@ returns-then-point-eq0 c = simp (eq-eqb _ _ c.if-point-eq0.true)
 
 pub returns : goal.returns
 unfolding send_of
-returns c = simp (ne_eqb _ _ c.if-point-eq0.false) (rw c.moved_up-left.ensures refl)
+returns c = rw c.without_oldest.ensures (simp (ne_eqb _ _ c.if-point-eq0.false))

@@ -1,6 +1,6 @@
-use Rattle.console.specs.Text.{Written}
+use Rattle.std.proofs.Common.{◌≡◌, ◌++◌}
 use Rattle.frame.specs.Printout.{side_choices_of}
 use Rattle.frame.proofs.line.choices.Given as goal
 
-abbrev pub invariant-loop-p : goal.invariant-loop-p
-invariant-loop-p l = Written l.initial.out l.from (side_choices_of l.ports l.p) l.out l.at
+abbrev pub invariant-loop-answer : goal.invariant-loop-answer
+invariant-loop-answer l = l.out.bytes ≡ l.initial.out.bytes ++ side_choices_of l.fn.answers l.answer-index

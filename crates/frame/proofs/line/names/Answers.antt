@@ -1,8 +1,8 @@
-use Rattle.std.proofs.Common.{List, arith, length, length-append, ℕ, ◌++◌, ◌+◌, ◌<◌, ◌≡◌, ◌≤◌}
-use Rattle.console.specs.Text.{decimal_of, HasRoom, Written}
+use Rattle.std.proofs.Common.{List, arith, length, length-append, ℕ, ◌++◌, ◌+◌, ◌<◌, ◌≡◌, ◌≤◌, refl}
+use Rattle.console.specs.Text.{decimal_of}
 use Rattle.frame.specs.Printout.{names_of}
-use Rattle.console.proofs.TextLaws.{written_as, written_on}
-use Rattle.console.proofs.TextBelowLaws.{below_none, below_next, below_room}
+use Rattle.console.proofs.TextLaws.{put_on}
+use Rattle.console.proofs.TextBelowLaws.{below_step, below_room}
 use Rattle.frame.proofs.line.names.Goals as goal
 
 -- the name of one port
@@ -10,21 +10,15 @@ abbrev name : List ℕ → ℕ → List ℕ
 name side p = side ++ decimal_of p
 
 -- room for the name of the next port
-room : (side : List ℕ) (n : ℕ) {before after : List ℕ} {from at p : ℕ} → p < n → HasRoom before from (names_of side n) → length after ≡ length before
-    → Written before from (names_of side p) after at → at + (length side + length (decimal_of p)) ≤ length after
-room side n l r same w = omega (arith, simp length-append at (below_room (name side) l r same w).enough)
+room : (side before : List ℕ) {now : List ℕ} {p n : ℕ} → now ≡ before ++ names_of side p → p < n
+    → length now + (length side + length (decimal_of p)) ≤ length before + length (names_of side n)
+room side before {p = p} so_far l = omega (arith, length-append side (decimal_of p), below_room (name side) before so_far l)
 
-pub loop-port-init : goal.loop-port-init
-loop-port-init c = below_none _ _ _
+pub push_str-requires : goal.push_str-requires
+push_str-requires c = omega (arith, room _ _ c.loop-port.invariant c.loop-port-test.true, c.requires)
 
-pub put-at-requires : goal.put-at-requires
-put-at-requires c = omega (arith, room _ _ c.loop-port-test.true c.requires c.loop-port.auto.out c.loop-port.invariant)
-
-pub number-at-requires : goal.number-at-requires
-number-at-requires c = omega (arith, room _ _ c.loop-port-test.true c.requires c.loop-port.auto.out c.loop-port.invariant)
+pub number-requires : goal.number-requires
+number-requires c = omega (arith, c.push_str.ensures.len, room _ _ c.loop-port.invariant c.loop-port-test.true, c.requires)
 
 pub loop-port-preserved : goal.loop-port-preserved
-loop-port-preserved c =
-    written_as
-    (written_on c.loop-port.invariant (written_on c.put-at.ensures c.number-at.ensures))
-    (below_next (name c.args.side.now) c.loop-port.port)
+loop-port-preserved c = below_step (name c.args.side.now) _ c.loop-port.invariant refl (put_on _ _ _ c.push_str.ensures.bytes c.number.ensures)

@@ -5,7 +5,5 @@ use Rattle.frame.proofs.printout.slot_lines.Given as goal
 
 abbrev pub invariant-loop-slot : goal.invariant-loop-slot
 invariant-loop-slot l =
-    Begun l.initial.out l.from
-    (slot_lines_of l.initial.state l.store l.n 0 l.frame)
-    (slot_lines_of l.state l.store l.n l.slot (l.frame - l.slot))
-    l.out l.at
+    Begun l.initial.out.bytes (slot_lines_of l.initial.state l.store l.n 0 l.frame)
+    l.out.bytes (slot_lines_of l.state l.store l.n l.slot (l.frame - l.slot))

@@ -21,9 +21,9 @@ pub returns-then-f-ge-MOST_PORTS : goal.returns-then-f-ge-MOST_PORTS
 returns-then-f-ge-MOST_PORTS c =
     let a = c.args in
     let full : length a.self.served ≡ most_ports = search rules in
-    ap countsIn (sym (rw c.in-Flow.is (count_outside a.self.served _ (omega arith))))
+    ap countsIn (sym (rw c.in-Some.is (count_outside a.self.served _ (omega arith))))
 
 pub returns : goal.returns
 returns c =
-    let chosen = flow_choice _ (omega arith) ∙ sym c.in-Flow.is in
+    let chosen = flow_choice _ (omega arith) ∙ sym c.in-Some.is in
     c.counted.ensures ∙ ap (count_of c.args.self) chosen

@@ -1,15 +1,10 @@
-use mathlib.Core.Path.{◌≡◌, sym}
-use native.Mathlib.Omega.{arith}
-use Rattle.smoothness.proofs.StretchLaws.{no_length, seen_before, new_counts}
+use Rattle.std.proofs.Common.{refl, rules}
+use borrow.Author.Tests.{lt-ltb, le-ltb}
+use Rattle.smoothness.proofs.StretchLaws.{counts_is}
 use Rattle.smoothness.proofs.printout.counts.Goals as goal
 
-pub returns-then-l-eq0 : goal.returns-then-l-eq0
-returns-then-l-eq0 c = sym (no_length _ _ c.if-l-eq0.true)
+pub returns-then-l-gt0 : goal.returns-then-l-gt0
+returns-then-l-gt0 c = rw (counts_is c.args.lengths c.args.k (search rules), lt-ltb 0 _ c.if-l-gt0.true, c.contains.ensures.value) refl
 
-pub returns-then-lengths-m : goal.returns-then-lengths-m
-returns-then-lengths-m c = sym (seen_before _ _ (omega (arith, c.if-l-eq0.false)) _ c.loop-m-test.true c.if-lengths-m.true)
-
-pub returns : goal.returns
-returns c =
-    let all : c.loop-m.m ≡ c.args.k = omega arith in
-    sym (new_counts _ _ (omega (arith, c.if-l-eq0.false)) (rw all at c.loop-m.invariant))
+pub returns-else-l-gt0 : goal.returns-else-l-gt0
+returns-else-l-gt0 c = rw (counts_is c.args.lengths c.args.k (search rules), le-ltb 0 _ c.if-l-gt0.false) refl

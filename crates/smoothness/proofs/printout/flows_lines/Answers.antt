@@ -1,25 +1,21 @@
-use native.Mathlib.Omega.{arith}
-use Rattle.console.proofs.TextLaws.{room_as}
-use Rattle.console.proofs.TextBelowLaws.{below_none, below_room, below_skip, below_step}
+use Rattle.std.proofs.Common.{ap, arith, length}
+use Rattle.console.proofs.TextBelowLaws.{below_room, below_skip, below_step}
 use Rattle.smoothness.proofs.PrintoutLaws.{no_rate, some_rate}
 use Rattle.smoothness.proofs.printout.flows_lines.Goals as goal
 
-pub loop-i-init : goal.loop-i-init
-loop-i-init c = below_none _ _ _
-
-pub loop-i-preserved-then-rate-eq0 : goal.loop-i-preserved-then-rate-eq0
-loop-i-preserved-then-rate-eq0 c =
+pub loop-board-preserved-then-rate-eq0 : goal.loop-board-preserved-then-rate-eq0
+loop-board-preserved-then-rate-eq0 c =
     let a = c.args in
-    below_skip _ c.loop-i.invariant (no_rate a.recorded.now a.rates.now a.j a.frame c.loop-i.i c.if-rate-eq0.true)
+    below_skip _ _ c.loop-board.invariant (no_rate a.recorded.now a.rates.now a.head a.frame c.loop-board.board c.if-rate-eq0.true)
 
-pub flow_lines-at-requires : goal.flow_lines-at-requires
-flow_lines-at-requires c =
+pub flow_lines-requires : goal.flow_lines-requires
+flow_lines-requires c =
     let a = c.args in
-    let l = c.loop-i in
-    let room = below_room _ c.loop-i-test.true c.requires.2 l.auto.out l.invariant in
-    (c.requires.0, omega arith, room_as room (some_rate a.recorded.now a.rates.now a.j a.frame l.i c.if-rate-eq0.false))
+    let l = c.loop-board in
+    let is = some_rate a.recorded.now a.rates.now a.head a.frame l.board c.if-rate-eq0.false in
+    (c.requires.0, omega arith, omega (arith, ap length is, below_room _ _ l.invariant c.loop-board-test.true, c.requires.2))
 
-pub loop-i-preserved : goal.loop-i-preserved
-loop-i-preserved c =
+pub loop-board-preserved : goal.loop-board-preserved
+loop-board-preserved c =
     let a = c.args in
-    below_step _ c.loop-i.invariant (some_rate a.recorded.now a.rates.now a.j a.frame c.loop-i.i c.if-rate-eq0.false) c.flow_lines-at.ensures
+    below_step _ _ c.loop-board.invariant (some_rate a.recorded.now a.rates.now a.head a.frame c.loop-board.board c.if-rate-eq0.false) c.flow_lines.ensures

@@ -1,7 +1,8 @@
-use Rattle.console.specs.Text.{Written}
+use Rattle.std.proofs.Common.{◌≡◌, ◌++◌}
 use Rattle.console.specs.TextBelow.{text_below}
 use Rattle.smoothness.specs.Head.{board_lines_of}
 use Rattle.smoothness.proofs.printout.flows_lines.Given as goal
 
-abbrev pub invariant-loop-i : goal.invariant-loop-i
-invariant-loop-i l = Written l.initial.out l.from (text_below (board_lines_of l.recorded l.rates l.j l.frame) l.i) l.out l.at
+abbrev pub invariant-loop-board : goal.invariant-loop-board
+invariant-loop-board l =
+    l.out.bytes ≡ l.initial.out.bytes ++ text_below (board_lines_of l.recorded l.rates l.head l.frame) l.board
