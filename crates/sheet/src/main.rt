@@ -4,10 +4,11 @@
 ghost use Rattle.std.specs.Prelude.{◌≡◌, length};
 ghost use Rattle.sheet.specs.Sheet.{most_input};
 
-use crate::argument::{Argument, read_argument};
+use crate::argument::read_argument;
 use crate::plan_file::plan_file;
+use arrayvec::ArrayString;
 use console::failure::fail;
-use console::input::{Input, read_input};
+use console::input::read_input;
 use console::text::{REFUSAL_ROOM, refusal_line};
 use plantext::MOST_TEXT;
 use refusal::Verdict;
@@ -34,9 +35,9 @@ fn usage(rt: &HostRuntime) {
 
 #[tactic(auto, using(console::proofs::TextLaws::refusal_short))]
 fn refuse(rt: &HostRuntime, verdict: Verdict) {
-    let mut line = [0u8; REFUSAL_ROOM];
-    let end = refusal_line(&mut line, 0, verdict);
-    let _ = rt.stderr().write_all(&line[..end]);
+    let mut line = ArrayString::<REFUSAL_ROOM>::new();
+    refusal_line(&mut line, verdict);
+    let _ = rt.stderr().write_all(line.as_bytes());
 }
 
 fn print(rt: &HostRuntime, file: &[u8]) {
@@ -47,36 +48,37 @@ fn print(rt: &HostRuntime, file: &[u8]) {
 
 // Whether there is an argument at a place, as long as it may be.
 fn is_given(rt: &HostRuntime, place: usize) -> bool {
-    match rt.arg(place, &mut []) {
-        Err(FillError::NotPresent) => false,
-        _ => true,
-    }
+    !matches!(rt.arg(place, &mut []), Err(FillError::NotPresent))
 }
 
-// The argument at a place; a missing one is no number.
-fn argument_at(rt: &HostRuntime, place: usize) -> Argument {
+// The number at a place; a missing argument is none.
+fn argument_at(rt: &HostRuntime, place: usize) -> Option<u32> {
     let mut text = [0u8; LONGEST_ARGUMENT];
-    match rt.arg(place, &mut text) {
-        Ok(len) => read_argument(&text[..len]),
-        Err(_) => Argument::Other,
+    let len = rt.arg(place, &mut text).ok()?;
+    read_argument(&text[..len])
+}
+
+// N and T, if there are two arguments and both are numbers.
+fn arguments(rt: &HostRuntime) -> Option<(u32, u32)> {
+    if is_given(rt, 3) {
+        return None;
     }
+    let n = argument_at(rt, 1)?;
+    let t = argument_at(rt, 2)?;
+    Some((n, t))
 }
 
 // Standard input to standard output.
 fn convert(rt: &HostRuntime, n: u32, t: u32) {
     let mut text = input_room();
     let len = match read_input(&mut rt.stdin(), &mut text) {
-        Input::Bytes(len) => len,
-        Input::Failed(error) => {
-            fail(rt, "standard input", error);
-            return;
-        }
+        Ok(len) => len,
+        Err(error) => return fail(rt, "standard input", error),
     };
     let file = plan_file(n as usize, t, &text[..len]);
     let verdict = file.verdict;
     let Verdict::Accepted = verdict else {
-        refuse(rt, verdict);
-        return;
+        return refuse(rt, verdict);
     };
     let bytes = file.bytes;
     let length = file.length;
@@ -84,17 +86,8 @@ fn convert(rt: &HostRuntime, n: u32, t: u32) {
 }
 
 fn main(rt: HostRuntime) {
-    if is_given(&rt, 3) {
-        usage(&rt);
-        return;
+    match arguments(&rt) {
+        Some((n, t)) => convert(&rt, n, t),
+        None => usage(&rt),
     }
-    let Argument::Number(n) = argument_at(&rt, 1) else {
-        usage(&rt);
-        return;
-    };
-    let Argument::Number(t) = argument_at(&rt, 2) else {
-        usage(&rt);
-        return;
-    };
-    convert(&rt, n, t);
 }

@@ -12,10 +12,7 @@ use refusal::Verdict;
 fn flows(n: usize) -> usize
     ensures { result ≡ cond (ports_in_range n) (n * n) 0 }
 {
-    if !ports_in_range(n) {
-        return 0;
-    }
-    n * n
+    if ports_in_range(n) { n * n } else { 0 }
 }
 
 pub fn plan_file(n: usize, t: u32, text: &[u8]) -> Writing
