@@ -7,16 +7,16 @@ use native.Mathlib.Omega.{arith}
 use lib.ListN.{length, take}
 use lib.Seq.{length-take-le}
 use Rattle.std.proofs.lemmas.List.{take-append-le, take_all}
-use Rattle.std.specs.Prelude.{Option, None, Some}
+use Rattle.std.specs.Prelude.{Option, None, Some, IfSome}
 use Rattle.std.specs.Io.KnownBytes.{Appends}
 use Rattle.plan.proofs.BelowLaws.{lt_or_le}
 use Rattle.console.specs.Input.{ReadsOn}
 use Rattle.console.specs.Program.{IsEnough, PrintsOf}
 
 -- the n bytes that were read are all that there were, or as many as decide
-module _ {T : Type 0} (IsTextOf : List ℕ → T → Type 0) (bytes_of : T → List ℕ) (room : List ℕ) (n : ℕ) (text : T) (within : n ≤ length room) (enough : IsEnough IsTextOf (length room)) (is_text : IsTextOf (take n room) text) where
-  of_whole : (file rest : List ℕ) → file ≡ take n room ++ rest → (n < length room → rest ≡ []) → IsTextOf file text
-  of_whole file rest split end =
+module _ {T : Type 0} (IsTextOf : List ℕ → T → Type 0) (room : List ℕ) (n : ℕ) (text : T) (within : n ≤ length room) (enough : IsEnough IsTextOf (length room)) (is_text : IsTextOf (take n room) text) where
+  whole : (file rest : List ℕ) → file ≡ take n room ++ rest → (n < length room → rest ≡ []) → IsTextOf file text
+  whole file rest split end =
       ⊎_elim
       (λ (l : n < length room). subst (λ (f : List ℕ). IsTextOf f text) (sym (split ∙ ap (λ (r : List ℕ). take n room ++ r) (end l) ∙ append-nil (take n room))) is_text)
       (λ (l : length room ≤ n).
@@ -27,7 +27,13 @@ module _ {T : Type 0} (IsTextOf : List ℕ → T → Type 0) (bytes_of : T → L
       enough file text (subst (λ (f : List ℕ). IsTextOf f text) (sym front) is_text))
       (lt_or_le n (length room))
 
-  pub printed : (before after old new : Option (List ℕ)) → ReadsOn before after room n → Appends old new (bytes_of text) → PrintsOf IsTextOf bytes_of before old new
-  printed None after old new read put = tt
-  printed (Some file) None old new read put = absurd read.0
-  printed (Some file) (Some rest) old new read put = (text, of_whole file rest read.0 read.1, put)
+  -- so the text is one of all that there was
+  pub read_whole : (before after : Option (List ℕ)) → ReadsOn before after room n → IfSome before (λ file. IsTextOf file text)
+  read_whole None after read = tt
+  read_whole (Some file) None read = absurd read.0
+  read_whole (Some file) (Some rest) read = whole file rest read.0 read.1
+
+  pub printed : (bytes_of : T → List ℕ) (before after old new : Option (List ℕ)) → ReadsOn before after room n → Appends old new (bytes_of text)
+      → PrintsOf IsTextOf bytes_of before old new
+  printed bytes_of None after old new read put = tt
+  printed bytes_of (Some file) after old new read put = (text, read_whole (Some file) after read, put)
