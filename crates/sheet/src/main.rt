@@ -1,18 +1,20 @@
 // Reads a plan's text from standard input and writes the plan file to standard output. N and T are the arguments.
 #![tactic(auto)]
 
-ghost use Rattle.std.specs.Prelude.{◌≡◌, length};
-ghost use Rattle.sheet.specs.Sheet.{most_input};
+ghost use Rattle.std.specs.Prelude.{◌≡◌, ◌≤◌, length, IfOk, IfSome};
+ghost use Rattle.sheet.specs.Sheet.{sheet_of};
 
 use crate::argument::read_argument;
 use crate::plan_file::plan_file;
 use arrayvec::ArrayString;
-use console::failure::fail;
+use console::failure::{Failure, report};
 use console::input::read_input;
 use console::text::{REFUSAL_ROOM, refusal_line};
+use planfile::writing::Writing;
 use plantext::MOST_TEXT;
 use refusal::Verdict;
 use std::env::{Env, FillError};
+use std::io::{self, Read};
 
 mod argument;
 mod plan_file;
@@ -23,12 +25,6 @@ const LONGEST_ARGUMENT: usize = 131072;
 // One byte more than the longest text has: the bytes past these change nothing (proofs/SheetLaws.antt).
 const MOST_INPUT: usize = MOST_TEXT + 1;
 
-fn input_room() -> [u8; MOST_INPUT]
-    ensures { length result ≡ most_input }
-{
-    [0; MOST_INPUT]
-}
-
 fn usage(rt: &HostRuntime) {
     let _ = eprintln!(rt; "use: sheet N T <plan.csv >plan.lsp");
 }
@@ -38,12 +34,6 @@ fn refuse(rt: &HostRuntime, verdict: Verdict) {
     let mut line = ArrayString::<REFUSAL_ROOM>::new();
     refusal_line(&mut line, verdict);
     let _ = rt.stderr().write_all(line.as_bytes());
-}
-
-fn print(rt: &HostRuntime, file: &[u8]) {
-    if let Err(error) = rt.write_all(file) {
-        fail(rt, "standard output", error);
-    }
 }
 
 // Whether there is an argument at a place, as long as it may be.
@@ -68,26 +58,32 @@ fn arguments(rt: &HostRuntime) -> Option<(u32, u32)> {
     Some((n, t))
 }
 
+// The plan file of the text that an input has.
+fn read_sheet<R: Read>(input: &mut R, n: u32, t: u32) -> io::Result<Writing>
+    ensures within { IfOk result (λ file. file.length ≤ length file.bytes) }
+    ensures sheet { IfOk result (λ file. IfSome (R.remaining input.old) (λ text. file ≡ sheet_of n t text)) }
+{
+    let mut text = [0u8; MOST_INPUT];
+    let len = read_input(input, &mut text)?;
+    Ok(plan_file(n as usize, t, &text[..len]))
+}
+
 // Standard input to standard output.
-fn convert(rt: &HostRuntime, n: u32, t: u32) {
-    let mut text = input_room();
-    let len = match read_input(&mut rt.stdin(), &mut text) {
-        Ok(len) => len,
-        Err(error) => return fail(rt, "standard input", error),
-    };
-    let file = plan_file(n as usize, t, &text[..len]);
+fn convert(rt: &HostRuntime, n: u32, t: u32) -> Result<(), Failure> {
+    let file = read_sheet(&mut rt.stdin(), n, t).map_err(Failure::Input)?;
     let verdict = file.verdict;
     let Verdict::Accepted = verdict else {
-        return refuse(rt, verdict);
+        refuse(rt, verdict);
+        return Ok(());
     };
     let bytes = file.bytes;
     let length = file.length;
-    print(rt, &bytes[..length]);
+    rt.write_all(&bytes[..length]).map_err(Failure::Output)
 }
 
 fn main(rt: HostRuntime) {
     match arguments(&rt) {
-        Some((n, t)) => convert(&rt, n, t),
+        Some((n, t)) => report(&rt, convert(&rt, n, t)),
         None => usage(&rt),
     }
 }

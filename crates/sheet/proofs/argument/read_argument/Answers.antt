@@ -11,7 +11,7 @@ returns-then-is_empty c = sym (argument_none _ (search rules))
 pub returns-then-not-is_digit : goal.returns-then-not-is_digit
 returns-then-not-is_digit c =
     let none = number_stops _ c.loop-byte.byte-index c.loop-byte.value (omega arith) (failed c.is_digit.ensures c.if-not-is_digit.true) in
-    sym (argument_some _ (search rules) ∙ sym c.loop-byte.invariant ∙ none)
+    sym (argument_some c.args.text.now (search rules) ∙ sym c.loop-byte.invariant ∙ none)
 
 pub loop-byte-preserved : goal.loop-byte-preserved
 loop-byte-preserved c =
@@ -22,4 +22,4 @@ loop-byte-preserved c =
 pub returns : goal.returns
 returns c =
     let all = number_ends _ c.loop-byte.byte-index c.loop-byte.value (omega arith) in
-    sym (argument_some _ (search rules) ∙ sym c.loop-byte.invariant ∙ all)
+    sym (argument_some c.args.text.now (search rules) ∙ sym c.loop-byte.invariant ∙ all)
