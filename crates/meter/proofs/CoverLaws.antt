@@ -1,15 +1,12 @@
 -- Cover from one place to the next, and from the record's start on.
-use Prim.Native.Nat.{ℕ, zero, suc, ◌+◌, ◌≤◌}
-use mathlib.Core.Path.{◌≡◌, refl, ap, sym, ◌∙◌}
+use Prim.Native.Nat.{ℕ, suc, ◌+◌, ◌≤◌}
+use mathlib.Core.Path.{◌≡◌, ap}
 use mathlib.Core.Bool.{Bool, true, false, cond}
 use mathlib.Core.List.{List, ◌∷◌}
 use native.Mathlib.Nat.{zero-add}
-use native.Mathlib.Numerals.{add-one}
 use native.Mathlib.Omega.{arith}
 use lib.Dec.{eqb}
-use lib.ListN.{length, get_or, take}
-use Rattle.std.specs.List.{sum_by, count_by}
-use Rattle.std.proofs.lemmas.List.Sums.{sum_by_more}
+use lib.ListN.{get_or}
 use Rattle.plan.specs.Below.{sum_below}
 use Rattle.plan.proofs.BelowLaws.{sum_ext}
 use Rattle.meter.specs.Cover.{service_in, cover_at}
@@ -40,13 +37,6 @@ module _ (recorded : List ℕ) (flow : ℕ) where
   pub cover_first : (p : ℕ) → cover_at recorded flow p 0 ≡ sum_below (at recorded flow) p
   unfolding cover_at
   cover_first p = sum_ext (λ u. at recorded flow (0 + u)) (at recorded flow) p (λ u _. ap (at recorded flow) (zero-add u))
-
-  pub cover_counted : (p : ℕ) → p ≤ length recorded → cover_at recorded flow p 0 ≡ count_by (λ entry. eqb entry flow) (take p recorded)
-  cover_counted p l = cover_first p ∙ sym (counted p l)
-    where
-      counted : (p : ℕ) → p ≤ length recorded → sum_by (service_in flow) (take p recorded) ≡ sum_below (at recorded flow) p
-      counted zero l = refl
-      counted (suc p) l = rw (← add-one p, sum_by_more (service_in flow) recorded p 0 (omega arith)) (omega (arith, counted p (omega arith)))
 
   pub cover_split : (l t : ℕ) → sum_below (at recorded flow) t + cover_at recorded flow l t ≡ sum_below (at recorded flow) (t + l)
   unfolding cover_at

@@ -5,7 +5,9 @@ use mathlib.Core.List.{List, []}
 use mathlib.Core.Logic.{⊎_elim}
 use native.Mathlib.Numerals.{add-one}
 use native.Mathlib.Omega.{arith}
-use lib.ListN.{length, get_or, set, take, replicate, length-set}
+use mathlib.Core.List.{◌++◌}
+use lib.ListN.{length, get_or, set, take, drop, replicate, length-set}
+use Rattle.std.proofs.lemmas.Grind.{common_steps, elements}
 use lib.Seq.{get_or-set_same, get_or-set_other, get_or-take, length-take-le, ext_get_or}
 use Rattle.plan.specs.Range.{most_flows}
 use Rattle.plan.specs.Accept.{IsPlan}
@@ -42,6 +44,15 @@ overlaid_at array list (suc m) k h l =
     (λ (b : k < m). get_or-set_other (overlaid array list m) m k (get_or list m 0) 0 (λ e. omega arith) ∙ overlaid_at array list m k b l)
     (λ (e : k ≡ m). rw e (get_or-set_same (overlaid array list m) m (get_or list m 0) 0 (omega (arith, overlaid_length array list m))))
     (below_or_last k m h)
+
+-- the array is the list's first numbers, and then its own
+pub overlaid_front : (array list : List ℕ) (count : ℕ) → count ≤ length array → count ≤ length list → take count list ++ drop count array ≡ overlaid array list count
+overlaid_front array list count room long =
+    ext_get_or 0 (take count list ++ drop count array) (overlaid array list count) (grind (arith, common_steps, overlaid_length array list count))
+    (λ k l. ⊎_elim
+    (λ (b : k < count). grind (arith, common_steps, overlaid_at array list count k b (omega arith)))
+    (λ (a : count ≤ k). grind (arith, elements, overlaid_above array list count k a))
+    (lt_or_le k count))
 
 -- only the numbers below count matter
 overlaid_ext : (array list other : List ℕ) (count : ℕ) → ((k : ℕ) → k < count → get_or list k 0 ≡ get_or other k 0) → overlaid array list count ≡ overlaid array other count

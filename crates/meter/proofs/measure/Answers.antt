@@ -37,14 +37,16 @@ overflow_sub-services c = omega (arith, slides (goal.at.overflow_sub-services c)
 least : (c : Joined-most-services) → let here = c.loop-place.services + c.service-services.result - c.service-services-in-loop-place.result in
     c.if-services-least.least ≡ or_better fewer c.loop-place.least here (c.loop-place.place + 1)
 least c = elim c.if-services-least.branch [
-    then-services-least w ↦ w.least-is ∙ sym (better_taken fewer _ _ _ (lt-ltb _ _ w.if-services-least.true))
-  | else-services-least w ↦ w.least-is ∙ sym (better_kept fewer _ _ _ (le-ltb _ _ w.if-services-least.false)) ]
+  | then-services-least w ↦ w.least-is ∙ sym (better_taken fewer _ _ _ (lt-ltb _ _ w.if-services-least.true))
+  | else-services-least w ↦ w.least-is ∙ sym (better_kept fewer _ _ _ (le-ltb _ _ w.if-services-least.false))
+]
 
 most : (c : Joined-most-services) → let here = c.loop-place.services + c.service-services.result - c.service-services-in-loop-place.result in
     c.if-most-services.most ≡ or_better more c.loop-place.most here (c.loop-place.place + 1)
 most c = elim c.if-most-services.branch [
-    then-most-services w ↦ w.most-is ∙ sym (better_taken more _ _ _ (lt-ltb _ _ w.if-most-services.true))
-  | else-most-services w ↦ w.most-is ∙ sym (better_kept more _ _ _ (le-ltb _ _ w.if-most-services.false)) ]
+  | then-most-services w ↦ w.most-is ∙ sym (better_taken more _ _ _ (lt-ltb _ _ w.if-most-services.true))
+  | else-most-services w ↦ w.most-is ∙ sym (better_kept more _ _ _ (le-ltb _ _ w.if-most-services.false))
+]
 
 pub loop-place-preserved : goal.loop-place-preserved
 loop-place-preserved c =
