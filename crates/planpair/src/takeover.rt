@@ -8,9 +8,9 @@ use plan::Plan;
 use plan::range::MOST_FLOWS;
 
 // A plan with the N, T and rates of the one that takes over.
-pub fn replaced(old: Plan, taken: &Plan) -> Plan
-    requires { taken.now.ports ≤ most_ports }
-    ensures { result ≡ replaced old taken.now }
+pub fn replaced(old: Plan, taken: Plan) -> Plan
+    requires { taken.ports ≤ most_ports }
+    ensures { result ≡ replaced old taken }
 {
     let n = taken.ports;
     Plan {
