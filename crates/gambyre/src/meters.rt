@@ -4,11 +4,11 @@ ghost use Rattle.meter.specs.Search.{cover_of};
 ghost use Rattle.records.specs.Records.{cover_record};
 
 use meter::cover;
-use records::{CoverRecord, cover_record};
+use records::CoverRecord;
 
 #[unsafe(no_mangle)]
 pub extern "C" fn gambyre_cover(recorded: &[u16], flow: u16, l: usize) -> CoverRecord
     ensures { result ≡ cover_record (cover_of recorded.now flow l) }
 {
-    cover_record(cover(recorded, flow, l))
+    cover(recorded, flow, l).into()
 }

@@ -5,7 +5,7 @@ ghost use Rattle.multiplexer.specs.Count.{count_of, end_frame_of};
 ghost use Rattle.records.specs.Records.{choice_record, choice_in};
 
 use multiplexer::Multiplexer;
-use records::{ChoiceRecord, choice_in, choice_record};
+use records::ChoiceRecord;
 
 #[unsafe(no_mangle)]
 pub extern "C" fn gambyre_choose(
@@ -16,14 +16,14 @@ pub extern "C" fn gambyre_choose(
 ) -> ChoiceRecord
     ensures { result ≡ choice_record (choose_of rates.now multiplexer.served frame slot) }
 {
-    choice_record(multiplexer.choose(rates, frame, slot))
+    multiplexer.choose(rates, frame, slot).into()
 }
 
 #[unsafe(no_mangle)]
 pub extern "C" fn gambyre_count(multiplexer: Multiplexer, choice: ChoiceRecord) -> Multiplexer
     ensures { result ≡ count_of multiplexer (choice_in choice) }
 {
-    multiplexer.count(choice_in(choice))
+    multiplexer.count(choice.into())
 }
 
 #[unsafe(no_mangle)]

@@ -9,7 +9,7 @@ ghost use Rattle.gambyre.specs.Written.{arrived, arrival_record};
 
 use crossbar::start::start;
 use crossbar::state::Switch;
-use records::{ReplyRecord, SlotRecord, reply_record, slot_record};
+use records::{ReplyRecord, SlotRecord};
 
 #[unsafe(no_mangle)]
 pub extern "C" fn gambyre_start(
@@ -21,7 +21,7 @@ pub extern "C" fn gambyre_start(
 ) -> ReplyRecord
     ensures { result ≡ reply_record (start_of n t rates.now depth store.now) }
 {
-    reply_record(start(n, t, rates, depth, store))
+    start(n, t, rates, depth, store).into()
 }
 
 #[unsafe(no_mangle)]
@@ -34,19 +34,19 @@ pub extern "C" fn gambyre_arrive(
 ) -> ReplyRecord
     ensures { arrived result store.new ≡ arrival_record (arrive_of state store.old i j cell) }
 {
-    reply_record(state.arrive(store, i, j, cell))
+    state.arrive(store, i, j, cell).into()
 }
 
 #[unsafe(no_mangle)]
 pub extern "C" fn gambyre_load(state: Switch, n: usize, t: u32, rates: &[u16]) -> ReplyRecord
     ensures { result ≡ reply_record (load_of state n t rates.now) }
 {
-    reply_record(state.load(n, t, rates))
+    state.load(n, t, rates).into()
 }
 
 #[unsafe(no_mangle)]
 pub extern "C" fn gambyre_step(state: Switch, store: &[u32]) -> SlotRecord
     ensures { result ≡ slot_record (step_of state store.now) }
 {
-    slot_record(state.step(store))
+    state.step(store).into()
 }

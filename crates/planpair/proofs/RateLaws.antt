@@ -1,12 +1,12 @@
 -- Lists of rates in the arrays of a plan: what stands where, and that a plan's rates are the list laid over its array.
 use Prim.Native.Nat.{ℕ, zero, suc, ◌+◌, ◌*◌, ◌<◌, ◌≤◌}
 use mathlib.Core.Path.{◌≡◌, refl, sym, ◌∙◌}
-use mathlib.Core.List.{List, []}
+use mathlib.Core.List.{List, [], ◌∷◌, ◌++◌, append_assoc}
 use mathlib.Core.Logic.{⊎_elim}
 use native.Mathlib.Numerals.{add-one}
 use native.Mathlib.Omega.{arith}
-use lib.ListN.{length, get_or, set, take, replicate, length-set}
-use lib.Seq.{get_or-set_same, get_or-set_other, get_or-take, length-take-le, ext_get_or}
+use lib.ListN.{length, get_or, set, take, drop, replicate, length-set}
+use lib.Seq.{get_or-set_same, get_or-set_other, get_or-take, length-take-le, take-suc, drop-cons, set_at, ext_get_or}
 use Rattle.plan.specs.Range.{most_flows}
 use Rattle.plan.specs.Accept.{IsPlan}
 use Rattle.plan.proofs.BelowLaws.{below_or_last, lt_or_le}
@@ -26,6 +26,16 @@ overlaid_next array list k f e = rw (add-one, e)
 pub overlaid_none : (array list : List ℕ) → array ≡ overlaid array list 0
 unfolding overlaid
 overlaid_none array list = refl
+
+-- the first numbers of the list, and the array's behind them
+pub overlaid_copied : (array list : List ℕ) (count : ℕ) → count ≤ length list → count ≤ length array → take count list ++ drop count array ≡ overlaid array list count
+unfolding overlaid
+overlaid_copied array list zero l a = refl
+overlaid_copied array list (suc k) l a =
+    let before = overlaid_copied array list k (omega arith) (omega arith) in
+    let behind = drop-cons array k 0 (omega arith) in
+    let next = set_at (take k list) (get_or array k 0) (drop (suc k) array) (get_or list k 0) k (length-take-le k list (omega arith)) in
+    rw (← before, behind, next, take-suc list k 0 (omega arith)) (append_assoc (take k list) (get_or list k 0 ∷ []) (drop (suc k) array))
 
 -- from count up, the array's number
 overlaid_above : (array list : List ℕ) (count k : ℕ) → count ≤ k → get_or (overlaid array list count) k 0 ≡ get_or array k 0

@@ -1,10 +1,13 @@
 -- The operations' answers as plain records: numbers stand in the place of cases. A verdict is its number by
 -- `verdict_number_of`, a port's kind its number by `kind_of`.
-use Rattle.std.specs.Prelude.{ℕ, zero, suc, cond, List, eqb, set, replicate, Option, Some, None}
-use Rattle.refusal.specs.Number.{verdict_number_of}
+use Rattle.std.specs.Prelude.{ℕ, zero, suc, cond, List, eqb, set, replicate, Option, Some, None, Result, Ok, Err}
+use Rattle.refusal.specs.Number.{number_of, verdict_number_of}
+use Rattle.refusal.specs.declared.Refusal.{Refusal}
 use Rattle.plan.specs.Range.{most_ports}
-use Rattle.planfile.specs.declared.Reading.{Reading}
+use Rattle.plan.specs.NoPlan.{no_plan}
+use Rattle.plan.specs.declared.Plan.{Plan}
 use Rattle.meter.specs.declared.Measured.{Measured}
+use Rattle.meter.specs.declared.Stretch.{Stretch}
 use Rattle.fabric.specs.Answer.{kind_of, answer_of}
 use Rattle.fabric.specs.declared.flow.Answer.{Answer}
 use Rattle.fabric.specs.declared.flow.Answer.TheVariants as answer
@@ -70,8 +73,15 @@ slot_record r =
       sends = port_records r.sends;
     }
 
-abbrev pub reading_record : Reading → ReadingRecord
-reading_record r = record { verdict = verdict_number_of r.verdict; plan = r.plan }
+-- "Where an operation was handed no state or plan and would answer one, the refusal's is all 0."
+abbrev pub reading_record : Result Plan Refusal → ReadingRecord
+reading_record (Ok plan) = record { verdict = 0; plan = plan }
+reading_record (Err why) = record { verdict = number_of why; plan = no_plan }
 
-abbrev pub cover_record : Measured → CoverRecord
-cover_record r = record { verdict = verdict_number_of r.verdict; least = r.least; most = r.most }
+-- "the other numbers of a refused answer are 0"
+abbrev pub none : Stretch
+none = record { services = 0; place = 0 }
+
+abbrev pub cover_record : Result Measured Refusal → CoverRecord
+cover_record (Ok r) = record { verdict = 0; least = r.least; most = r.most }
+cover_record (Err why) = record { verdict = number_of why; least = none; most = none }

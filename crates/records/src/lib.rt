@@ -10,9 +10,8 @@ ghost use Rattle.records.specs.Records.{other_of, cell_of, answer_record, port_r
 use crossbar::state::{Reply, SlotReply, Switch};
 use fabric::flow::Answer;
 use meter::{Measured, Stretch};
-use plan::Plan;
 use plan::range::MOST_PORTS;
-use planfile::Reading;
+use plan::{Plan, no_plan};
 use refusal::Refusal;
 
 // The kinds of a port's answer.
@@ -75,6 +74,7 @@ pub struct CoverRecord {
     pub most: Stretch,
 }
 
+// Not a `From`: of u32 and Result neither is this crate's.
 pub fn verdict_number(verdict: Result<(), Refusal>) -> u32
     ensures { result ≡ verdict_number_of verdict }
 {
@@ -96,8 +96,7 @@ fn other_of(answer: Answer) -> usize
 {
     match answer {
         Answer::Idle => 0,
-        Answer::Empty(other) => other,
-        Answer::Moved(other, _) => other,
+        Answer::Empty(other) | Answer::Moved(other, _) => other,
     }
 }
 
@@ -105,106 +104,121 @@ fn cell_of(answer: Answer) -> u32
     ensures { result ≡ cell_of answer }
 {
     match answer {
-        Answer::Idle => 0,
-        Answer::Empty(_) => 0,
         Answer::Moved(_, cell) => cell,
+        _ => 0,
     }
 }
 
-// Field by field: a processor need not foresee which kind comes.
-fn port_record(answer: Answer) -> PortRecord
-    ensures { result ≡ answer_record answer }
-{
-    PortRecord {
-        kind: kind_of(answer),
-        other: other_of(answer),
-        cell: cell_of(answer),
+// Field by field: by one `match` for the whole record the compiler copies 34 KB more in a slot.
+impl From<Answer> for PortRecord {
+    ghost from_gives = { λ answer r. r ≡ answer_record answer };
+
+    fn from(answer: Answer) -> Self {
+        PortRecord {
+            kind: kind_of(answer),
+            other: other_of(answer),
+            cell: cell_of(answer),
+        }
     }
 }
 
+// Place by place: by `map` of the array the compiler copies 36 KB more in a slot.
 #[tactic(auto, unfolding(crate::specs::Records::records_below))]
 fn port_records(answers: [Answer; MOST_PORTS]) -> [PortRecord; MOST_PORTS]
     ensures { result ≡ port_records answers }
 {
-    let mut records = [PortRecord {
-        kind: IDLE,
-        other: 0,
-        cell: 0,
-    }; MOST_PORTS];
-    for p in 0..MOST_PORTS {
-        records[p] = port_record(answers[p]);
+    let mut records = [PortRecord::from(Answer::Idle); MOST_PORTS];
+    for (p, record) in records.iter_mut().enumerate() {
+        *record = answers[p].into();
     }
     records
 }
 
-pub fn choice_record(choice: Option<usize>) -> ChoiceRecord
-    ensures { result ≡ choice_record choice }
-{
-    match choice {
-        None => ChoiceRecord {
-            kind: NO_FLOW,
-            flow: 0,
-        },
-        Some(flow) => ChoiceRecord { kind: FLOW, flow },
+impl From<Option<usize>> for ChoiceRecord {
+    ghost from_gives = { λ choice r. r ≡ choice_record choice };
+
+    fn from(choice: Option<usize>) -> Self {
+        match choice {
+            None => ChoiceRecord {
+                kind: NO_FLOW,
+                flow: 0,
+            },
+            Some(flow) => ChoiceRecord { kind: FLOW, flow },
+        }
     }
 }
 
 // The choice that a caller hands over; every kind but NO_FLOW is a flow.
-pub fn choice_in(choice: ChoiceRecord) -> Option<usize>
-    ensures { result ≡ choice_in choice }
-{
-    if choice.kind == NO_FLOW {
-        return None;
-    }
-    Some(choice.flow)
-}
+impl From<ChoiceRecord> for Option<usize> {
+    ghost from_gives = { λ choice r. r ≡ choice_in choice };
 
-pub fn reply_record(reply: Reply) -> ReplyRecord
-    ensures { result ≡ reply_record reply }
-{
-    let verdict = reply.verdict;
-    let state = reply.state;
-    ReplyRecord {
-        verdict: verdict_number(verdict),
-        state,
+    fn from(choice: ChoiceRecord) -> Self {
+        if choice.kind == NO_FLOW {
+            return None;
+        }
+        Some(choice.flow)
     }
 }
 
-pub fn slot_record(reply: SlotReply) -> SlotRecord
-    ensures { result ≡ slot_record reply }
-{
-    let verdict = reply.verdict;
-    let state = reply.state;
-    let moves = reply.moves;
-    let sends = reply.sends;
-    SlotRecord {
-        verdict: verdict_number(verdict),
-        state,
-        moves: port_records(moves),
-        sends: port_records(sends),
+impl From<Reply> for ReplyRecord {
+    ghost from_gives = { λ reply r. r ≡ reply_record reply };
+
+    fn from(reply: Reply) -> Self {
+        ReplyRecord {
+            verdict: verdict_number(reply.verdict),
+            state: reply.state,
+        }
     }
 }
 
-pub fn reading_record(reading: Reading) -> ReadingRecord
-    ensures { result ≡ reading_record reading }
-{
-    let verdict = reading.verdict;
-    let plan = reading.plan;
-    ReadingRecord {
-        verdict: verdict_number(verdict),
-        plan,
+impl From<SlotReply> for SlotRecord {
+    ghost from_gives = { λ reply r. r ≡ slot_record reply };
+
+    fn from(reply: SlotReply) -> Self {
+        SlotRecord {
+            verdict: verdict_number(reply.verdict),
+            state: reply.state,
+            moves: port_records(reply.moves),
+            sends: port_records(reply.sends),
+        }
     }
 }
 
-pub fn cover_record(measured: Measured) -> CoverRecord
-    ensures { result ≡ cover_record measured }
-{
-    let verdict = measured.verdict;
-    let least = measured.least;
-    let most = measured.most;
-    CoverRecord {
-        verdict: verdict_number(verdict),
-        least,
-        most,
+// A refused file has no plan: all is 0.
+impl From<Result<Plan, Refusal>> for ReadingRecord {
+    ghost from_gives = { λ reading r. r ≡ reading_record reading };
+
+    fn from(reading: Result<Plan, Refusal>) -> Self {
+        match reading {
+            Ok(plan) => ReadingRecord { verdict: 0, plan },
+            Err(refusal) => ReadingRecord {
+                verdict: u32::from(refusal.number()),
+                plan: no_plan(),
+            },
+        }
+    }
+}
+
+// A refused record has no stretches: all is 0.
+impl From<Result<Measured, Refusal>> for CoverRecord {
+    ghost from_gives = { λ measured r. r ≡ cover_record measured };
+
+    fn from(measured: Result<Measured, Refusal>) -> Self {
+        let none = Stretch {
+            services: 0,
+            place: 0,
+        };
+        match measured {
+            Ok(Measured { least, most }) => CoverRecord {
+                verdict: 0,
+                least,
+                most,
+            },
+            Err(refusal) => CoverRecord {
+                verdict: u32::from(refusal.number()),
+                least: none,
+                most: none,
+            },
+        }
     }
 }
