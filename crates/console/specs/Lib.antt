@@ -2,3 +2,4 @@ pub mod Text
 pub mod Refused
 pub mod Input
 pub mod TextBelow
+pub mod Program

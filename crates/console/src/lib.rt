@@ -3,4 +3,5 @@
 
 pub mod failure;
 pub mod input;
+pub mod program;
 pub mod text;

@@ -14,7 +14,6 @@ use Rattle.refusal.proofs.ChainLaws.{refused_not_accepted, refuse_passed, then_p
 use Rattle.plan.specs.Accept.{accept_of}
 use Rattle.plan.proofs.BelowLaws.{and_true}
 use Rattle.plan.proofs.AcceptLaws.{accepted, accepts}
-use Rattle.planpair.specs.Rates.{overlaid}
 use Rattle.planpair.proofs.RateLaws.{overlaid_twice}
 use Rattle.crossbar.specs.Valid.{valid_of}
 use Rattle.crossbar.specs.State.{has_waiting}

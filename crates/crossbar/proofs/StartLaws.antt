@@ -1,5 +1,5 @@
 -- When a start is accepted, and what it answers.
-use Prim.Native.Nat.{ℕ, ◌*◌}
+use Prim.Native.Nat.{ℕ}
 use mathlib.Core.Path.{◌≡◌, refl}
 use mathlib.Core.Bool.{not}
 use mathlib.Core.List.{List}
@@ -16,7 +16,7 @@ use Rattle.plan.proofs.AcceptLaws.{accepted, accepts}
 use Rattle.crossbar.specs.State.{depth_in_range, store_fits}
 use Rattle.plan.specs.NoPlan.{no_plan}
 use Rattle.crossbar.specs.Start.{plan_over, fresh_with, plan_of, start_verdict, CanStart, start_of}
-use Rattle.planpair.specs.Rates.{overlaid, plan_rates}
+use Rattle.planpair.specs.Rates.{plan_rates}
 use Rattle.crossbar.specs.declared.state.Switch.{Switch}
 use Rattle.crossbar.specs.declared.state.Reply.{Reply}
 use Rattle.planpair.proofs.RateLaws.{laid_rates}

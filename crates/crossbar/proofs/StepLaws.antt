@@ -9,7 +9,7 @@ use native.Mathlib.Omega.{arith}
 use lib.Dec.{eqb}
 use lib.ListN.{length, take}
 use lib.Seq.{length-take-le}
-use borrow.Author.Tests.{eq-eqb, ne_eqb}
+use borrow.Author.Tests.{eq-eqb, ne_eqb, eqb-false, not-true}
 use Rattle.std.specs.Prelude.{Option, Ok}
 use Rattle.refusal.specs.Verdict.{Verdict}
 use Rattle.plan.specs.Range.{most_ports, most_flows}
@@ -42,7 +42,7 @@ use Rattle.crossbar.specs.declared.state.Switch.{Switch}
 use Rattle.crossbar.proofs.OwnedLaws.{Sized}
 use Rattle.crossbar.proofs.ValidLaws.{valid}
 use Rattle.crossbar.proofs.StoreLaws.{store_length}
-use Rattle.crossbar.proofs.TakeoverLaws.{taken, not_taken, Ruled, ruled}
+use Rattle.crossbar.proofs.TakeoverLaws.{taken, not_taken, takes_waiting, Ruled, ruled}
 
 -- Lists of N × N out of the arrays of the plans.
 
@@ -217,6 +217,21 @@ module _
               let f = some_choose s (length store) n valid? fits j (omega arith) in
               record { fit = f; rules = valid s f.passed; roomy = e; same = same }
           go false e = let none : m ≡ 0 = acting-is ∙ (rw e refl) in absurd (omega arith)
+
+      -- what the code tests before it makes a takeover
+      pub taking : (takes_over s && not (eqb m 0)) ≡ true → (takes_over s ≡ true) × (1 ≤ m)
+      taking e =
+          let both = and_true (takes_over s) (not (eqb m 0)) e in
+          let some = eqb-false m 0 (not-true _ both.1) in
+          (both.0, omega arith)
+
+      -- a plan that takes over is that of a valid state
+      pub few_taken : (takes_over s && not (eqb m 0)) ≡ true → s.waiting.ports ≤ most_ports
+      few_taken e = let t = taking e in ((acts t.1).rules.waiting (takes_waiting s t.0)).few_ports
+
+      -- and so is a slot that goes on
+      pub next_fits : 1 ≤ m → s.slot + 1 ≤ 4294967295
+      next_fits l = let v = (acts l).rules in omega (arith, v.in_frame, v.running.few_slots)
 
       pub few_act : m ≤ most_ports
       few_act = go room refl

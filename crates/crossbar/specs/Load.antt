@@ -1,6 +1,6 @@
 -- "A load puts an accepted plan in waiting", and "the later plan replaces the waiting one" (L5). Order: 12, 1 to 5, 8. Only
 -- the waiting plan's N, T and rates for ports below N are written.
-use Rattle.std.specs.Prelude.{ℕ, ◌*◌, ◌≡◌, true, not, ◌&&◌, List, eqb, Ok}
+use Rattle.std.specs.Prelude.{ℕ, ◌≡◌, true, not, ◌&&◌, List, eqb, Ok}
 use Rattle.refusal.specs.Chain.{refuse_if, and_then, if_accepted}
 use Rattle.refusal.specs.declared.Refusal.TheVariants.{StateInvalid, PlanMismatch}
 use Rattle.refusal.specs.Verdict.{Verdict}

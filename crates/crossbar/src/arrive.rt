@@ -6,8 +6,8 @@ use crate::state::{Reply, Switch};
 use crate::valid::store_fits;
 use fabric::flow::Queue;
 use fabric::places::ring_place;
+use plan::lines::flow_place;
 use refusal::Refusal;
-use side::places::flow_place;
 
 impl Switch {
     #[tactic(auto, unfolding(crate::specs::Arrive::arrive_verdict))]

@@ -18,7 +18,8 @@ pub struct Switch {
     pub fabric: Fabric,
 }
 
-// What start, arrive and load answer. The state comes first: behind another field the compiler copies it once more.
+// What start, arrive and load answer: a state on a refusal too, which start_of, arrive_of and load_of say, and so no Result of
+// one. The state comes first: behind another field the compiler copies it once more.
 #[derive(Drop)]
 pub struct Reply {
     pub state: Switch,

@@ -12,6 +12,7 @@ ghost use Rattle.crossbar.specs.Step.{verdict_by, Judged, Steps, IdlesOnly};
 use crate::state::{SlotReply, Switch};
 use crate::valid::store_fits;
 use fabric::moves::room_for_all;
+use fabric::slot::AfterSlot;
 use plan::range::MOST_FLOWS;
 use planpair::takeover::{cleared, replaced};
 use refusal::Refusal;
@@ -94,10 +95,14 @@ fn next_slot(n: usize, slot: u32, t: u32) -> u32
 impl Switch {
     // The slot in which n ports choose, by what was judged of 12 and 7: none do where the step is refused by then. 13 is
     // judged by the boards' choices; where it refuses, no port acts.
+    #[tactic(auto, using(crate::proofs::StepLaws::few_choose, plan::proofs::LineLaws::square_small))]
     fn slot(self, store: &[u32], n: usize, valid: bool, fits: bool) -> SlotReply
         requires { Judged self (length store.now) n valid fits }
         ensures { Steps self store.now result }
     {
+        // Made first: a copy that is made after the services costs 1,024 bytes more.
+        let mut next = self;
+        // Local copies: a part of the state that is lent keeps the whole in one piece, which the compiler then copies.
         let rates = self.running.rates;
         let waiting_rates = self.waiting.rates;
         let running = &rates[..n * n];
@@ -112,20 +117,22 @@ impl Switch {
         columns_of(running, waiting, takeover, n, &mut columns);
         let rows = &columns[..m * m];
         let heads = serve_all(fabric.heads, rows, rows, false, m, t, self.slot);
-        let ran = fabric.run(store, boards, heads, m, self.depth);
-        let mut next = self;
+        let AfterSlot {
+            fabric: after,
+            moves,
+            sends,
+        } = fabric.run(store, boards, heads, m, self.depth);
+        let verdict = verdict_by(valid, fits, room);
         next.slot = next_slot(m, self.slot, t);
-        next.fabric = ran.fabric;
-        if takeover && m != 0 {
-            next.running = replaced(self.running, self.waiting);
-            next.waiting = cleared(self.waiting);
+        next.fabric = after;
+        if takeover & (m != 0) {
+            next.running = replaced(next.running, next.waiting);
+            next.waiting = cleared(next.waiting);
             next.waits = 0;
         }
-        let moves = ran.moves;
-        let sends = ran.sends;
         SlotReply {
             state: next,
-            verdict: verdict_by(valid, fits, room),
+            verdict,
             moves,
             sends,
         }

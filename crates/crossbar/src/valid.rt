@@ -30,22 +30,25 @@ pub fn store_fits(n: usize, depth: usize, len: usize) -> bool
 impl Switch {
     // Whether no rule of number 12 is broken: of the plans, of Q and the slot, of the flows, of the counts. What is lent is a
     // local copy: a part of the state that is lent keeps the whole of it in one piece, which the compiler then copies.
-    #[tactic(auto, unfolding(crate::specs::Valid::valid_of))]
+    #[tactic(auto, using(planpair::proofs::ValidLaws::running_valid, plan::proofs::LineLaws::square_small), unfolding(crate::specs::Valid::valid_of))]
     pub fn is_valid(self) -> bool
         ensures { result ≡ valid_of self }
     {
-        let n = self.running.ports;
-        let t = self.running.frame;
-        let rates = self.running.rates;
-        let waiting = self.waiting.rates;
-        let waits = self.waits != 0;
+        let running = self.running;
+        let waiting = self.waiting;
         let fabric = self.fabric;
-        if !plans_valid(n, t, &rates, self.waiting.ports, self.waiting.frame, &waiting, waits) {
-            return false;
-        }
-        depth_in_range(self.depth)
-            && self.slot < t
+        let n = running.ports;
+        let waits = self.waits != 0;
+        plans_valid(&running, &waiting, waits)
+            && depth_in_range(self.depth)
+            && self.slot < running.frame
             && flows_valid(fabric.queues, fabric.crosspoints, n, self.depth)
-            && counts_valid(&rates[..n * n], fabric.boards, fabric.heads, n, self.slot)
+            && counts_valid(
+                &running.rates[..n * n],
+                fabric.boards,
+                fabric.heads,
+                n,
+                self.slot,
+            )
     }
 }

@@ -2,13 +2,11 @@
 #![tactic(auto)]
 
 use crate::printout::printout;
-use console::failure::fail;
+use console::failure::{Failure, report};
 
 mod printout;
 
 fn main(rt: HostRuntime) {
-    let text = printout();
-    if let Err(error) = rt.write_all(text.as_bytes()) {
-        fail(&rt, "standard output", error);
-    }
+    let done = rt.write_all(printout().as_bytes());
+    report(&rt, done.map_err(Failure::Output));
 }

@@ -18,13 +18,12 @@ const PRINTOUT_ROOM: usize = TABLE_FRAME as usize * (TABLE_FRAME as usize * LINE
 pub type Text = ArrayString<PRINTOUT_ROOM>;
 
 // s × 64 / a rounded up.
-#[tactic(auto, using(multiplexer::proofs::RoundLaws::quotient_rounded))]
+#[tactic(auto, using(console::proofs::CeilLaws::ceil_is, multiplexer::proofs::RoundLaws::quotient_rounded))]
 fn deadline(a: u32, s: u32) -> u64
     requires { (1 ≤ a) × (a ≤ table_frame) × (s ≤ a) }
     ensures { result ≡ rounded_up (s * table_frame) a }
 {
-    let sum = s * TABLE_FRAME + (a - 1);
-    u64::from(sum / a)
+    u64::from((s * TABLE_FRAME).div_ceil(a))
 }
 
 fn line(out: &mut Text, value: u64)

@@ -15,7 +15,7 @@ pub mod slot;
 pub mod valid;
 
 // Flow (i, j) has number i * N + j in both lists, and a multiplexer counts by the other port's number. A phase of a slot takes
-// the fabric and hands it on, so that no copy is kept.
+// the fabric and hands it on, so that no copy is kept. Queues and crosspoints are two lists as in include/gambyre.h.
 #[repr(C)]
 #[derive(Clone, Copy)]
 pub struct Fabric {

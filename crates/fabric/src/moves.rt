@@ -5,8 +5,8 @@ ghost use Rattle.fabric.specs.Moves.{move_of, moved_of, room_for_all, CanMove, C
 
 use crate::flow::{Answer, Crosspoint, Queue};
 use crate::{AfterServices, Fabric};
+use plan::lines::flow_place;
 use plan::range::{MOST_FLOWS, MOST_PORTS};
-use side::places::flow_place;
 
 // What one board's service makes of its flow.
 #[derive(Clone, Copy)]

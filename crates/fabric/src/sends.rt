@@ -5,8 +5,8 @@ ghost use Rattle.fabric.specs.Sends.{send_of, sent_of};
 
 use crate::flow::{Answer, Crosspoint};
 use crate::{AfterServices, Fabric};
+use plan::lines::flow_place;
 use plan::range::MOST_PORTS;
-use side::places::flow_place;
 
 // What one head's service makes of its flow: a Move without the queue, which a head does not touch.
 #[derive(Clone, Copy)]

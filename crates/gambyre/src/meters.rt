@@ -10,5 +10,5 @@ use records::CoverRecord;
 pub extern "C" fn gambyre_cover(recorded: &[u16], flow: u16, l: usize) -> CoverRecord
     ensures { result ≡ cover_record (cover_of recorded.now flow l) }
 {
-    cover(recorded, flow, l).into()
+    CoverRecord::from(cover(recorded, flow, l))
 }

@@ -16,14 +16,14 @@ pub extern "C" fn gambyre_choose(
 ) -> ChoiceRecord
     ensures { result ≡ choice_record (choose_of rates.now multiplexer.served frame slot) }
 {
-    multiplexer.choose(rates, frame, slot).into()
+    ChoiceRecord::from(multiplexer.choose(rates, frame, slot))
 }
 
 #[unsafe(no_mangle)]
 pub extern "C" fn gambyre_count(multiplexer: Multiplexer, choice: ChoiceRecord) -> Multiplexer
     ensures { result ≡ count_of multiplexer (choice_in choice) }
 {
-    multiplexer.count(choice.into())
+    multiplexer.count(Option::from(choice))
 }
 
 #[unsafe(no_mangle)]

@@ -27,7 +27,7 @@ pub extern "C" fn gambyre_accept(n: usize, t: u32, rates: &[u16]) -> u32
 }
 
 // Copies as much of the row as `out` takes, and answers the row's length.
-#[tactic(auto, using(planpair::proofs::RateLaws::overlaid_copied))]
+#[tactic(auto, using(planpair::proofs::RateLaws::overlaid_front))]
 fn copy_row(row: &[u16], out: &mut [u16]) -> usize
     ensures { numbered result out.new ≡ view_record row.now out.old }
 {
@@ -75,7 +75,7 @@ pub extern "C" fn gambyre_boost(
 pub extern "C" fn gambyre_read(bytes: &[u8]) -> ReadingRecord
     ensures { result ≡ reading_record (read_of bytes.now) }
 {
-    read(bytes).into()
+    ReadingRecord::from(read(bytes))
 }
 
 #[unsafe(no_mangle)]

@@ -21,7 +21,7 @@ pub extern "C" fn gambyre_start(
 ) -> ReplyRecord
     ensures { result ≡ reply_record (start_of n t rates.now depth store.now) }
 {
-    start(n, t, rates, depth, store).into()
+    ReplyRecord::from(start(n, t, rates, depth, store))
 }
 
 #[unsafe(no_mangle)]
@@ -34,19 +34,19 @@ pub extern "C" fn gambyre_arrive(
 ) -> ReplyRecord
     ensures { arrived result store.new ≡ arrival_record (arrive_of state store.old i j cell) }
 {
-    state.arrive(store, i, j, cell).into()
+    ReplyRecord::from(state.arrive(store, i, j, cell))
 }
 
 #[unsafe(no_mangle)]
 pub extern "C" fn gambyre_load(state: Switch, n: usize, t: u32, rates: &[u16]) -> ReplyRecord
     ensures { result ≡ reply_record (load_of state n t rates.now) }
 {
-    state.load(n, t, rates).into()
+    ReplyRecord::from(state.load(n, t, rates))
 }
 
 #[unsafe(no_mangle)]
 pub extern "C" fn gambyre_step(state: Switch, store: &[u32]) -> SlotRecord
     ensures { result ≡ slot_record (step_of state store.now) }
 {
-    state.step(store).into()
+    SlotRecord::from(state.step(store))
 }

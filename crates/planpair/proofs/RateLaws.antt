@@ -1,12 +1,14 @@
 -- Lists of rates in the arrays of a plan: what stands where, and that a plan's rates are the list laid over its array.
 use Prim.Native.Nat.{ℕ, zero, suc, ◌+◌, ◌*◌, ◌<◌, ◌≤◌}
 use mathlib.Core.Path.{◌≡◌, refl, sym, ◌∙◌}
-use mathlib.Core.List.{List, [], ◌∷◌, ◌++◌, append_assoc}
+use mathlib.Core.List.{List, []}
 use mathlib.Core.Logic.{⊎_elim}
 use native.Mathlib.Numerals.{add-one}
 use native.Mathlib.Omega.{arith}
+use mathlib.Core.List.{◌++◌}
 use lib.ListN.{length, get_or, set, take, drop, replicate, length-set}
-use lib.Seq.{get_or-set_same, get_or-set_other, get_or-take, length-take-le, take-suc, drop-cons, set_at, ext_get_or}
+use Rattle.std.proofs.lemmas.Grind.{common_steps, elements}
+use lib.Seq.{get_or-set_same, get_or-set_other, get_or-take, length-take-le, ext_get_or}
 use Rattle.plan.specs.Range.{most_flows}
 use Rattle.plan.specs.Accept.{IsPlan}
 use Rattle.plan.proofs.BelowLaws.{below_or_last, lt_or_le}
@@ -27,16 +29,6 @@ pub overlaid_none : (array list : List ℕ) → array ≡ overlaid array list 0
 unfolding overlaid
 overlaid_none array list = refl
 
--- the first numbers of the list, and the array's behind them
-pub overlaid_copied : (array list : List ℕ) (count : ℕ) → count ≤ length list → count ≤ length array → take count list ++ drop count array ≡ overlaid array list count
-unfolding overlaid
-overlaid_copied array list zero l a = refl
-overlaid_copied array list (suc k) l a =
-    let before = overlaid_copied array list k (omega arith) (omega arith) in
-    let behind = drop-cons array k 0 (omega arith) in
-    let next = set_at (take k list) (get_or array k 0) (drop (suc k) array) (get_or list k 0) k (length-take-le k list (omega arith)) in
-    rw (← before, behind, next, take-suc list k 0 (omega arith)) (append_assoc (take k list) (get_or list k 0 ∷ []) (drop (suc k) array))
-
 -- from count up, the array's number
 overlaid_above : (array list : List ℕ) (count k : ℕ) → count ≤ k → get_or (overlaid array list count) k 0 ≡ get_or array k 0
 unfolding overlaid
@@ -52,6 +44,15 @@ overlaid_at array list (suc m) k h l =
     (λ (b : k < m). get_or-set_other (overlaid array list m) m k (get_or list m 0) 0 (λ e. omega arith) ∙ overlaid_at array list m k b l)
     (λ (e : k ≡ m). rw e (get_or-set_same (overlaid array list m) m (get_or list m 0) 0 (omega (arith, overlaid_length array list m))))
     (below_or_last k m h)
+
+-- the array is the list's first numbers, and then its own
+pub overlaid_front : (array list : List ℕ) (count : ℕ) → count ≤ length array → count ≤ length list → take count list ++ drop count array ≡ overlaid array list count
+overlaid_front array list count room long =
+    ext_get_or 0 (take count list ++ drop count array) (overlaid array list count) (grind (arith, common_steps, overlaid_length array list count))
+    (λ k l. ⊎_elim
+    (λ (b : k < count). grind (arith, common_steps, overlaid_at array list count k b (omega arith)))
+    (λ (a : count ≤ k). grind (arith, elements, overlaid_above array list count k a))
+    (lt_or_le k count))
 
 -- only the numbers below count matter
 overlaid_ext : (array list other : List ℕ) (count : ℕ) → ((k : ℕ) → k < count → get_or list k 0 ≡ get_or other k 0) → overlaid array list count ≡ overlaid array other count

@@ -12,11 +12,7 @@ use Rattle.planpair.specs.Rates.{overlaid, plan_rates}
 use Rattle.planpair.specs.Takeover.{replaced, cleared}
 use Rattle.planpair.proofs.RateLaws.{overlaid_part, overlaid_zeros, take_overlaid}
 
--- The answers, as the code puts them together from the rates it laid over an array.
-
-pub replaced_is : (p q : Plan) {rates : List ℕ} → rates ≡ overlaid p.rates q.rates (q.ports * q.ports) → ◌≡◌ {A = Plan} (record { ports = q.ports; frame = q.frame; rates = rates }) (replaced p q)
-replaced_is p q laid = rw laid refl
-
+-- The answer, as the code puts it together from the rates it laid over an array.
 pub cleared_is : (p : Plan) (m : ℕ) {rates : List ℕ} → rates ≡ overlaid p.rates (replicate m 0) (p.ports * p.ports) → ◌≡◌ {A = Plan} (record { ports = 0; frame = 0; rates = rates }) (cleared p)
 cleared_is p m laid = rw (laid, overlaid_zeros p.rates m (p.ports * p.ports)) refl
 

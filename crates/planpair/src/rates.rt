@@ -6,13 +6,11 @@ ghost use Rattle.planpair.specs.Rates.{overlaid};
 use plan::range::MOST_FLOWS;
 
 // The array with its first `count` places taken from the list.
-pub fn overlay(array: [u16; MOST_FLOWS], list: &[u16], count: usize) -> [u16; MOST_FLOWS]
+#[tactic(auto, using(crate::proofs::RateLaws::overlaid_front))]
+pub fn overlay(mut array: [u16; MOST_FLOWS], list: &[u16], count: usize) -> [u16; MOST_FLOWS]
     requires { (count ≤ most_flows) × (count ≤ length list.now) }
     ensures { result ≡ overlaid array list.now count }
 {
-    let mut rates = array;
-    for k in 0..count {
-        rates[k] = list[k];
-    }
-    rates
+    array[..count].copy_from_slice(&list[..count]);
+    array
 }

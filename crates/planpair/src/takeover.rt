@@ -13,12 +13,10 @@ pub fn replaced(old: Plan, taken: Plan) -> Plan
     ensures { result ≡ replaced old taken }
 {
     let n = taken.ports;
-    let rates = old.rates;
-    let list = taken.rates;
     Plan {
         ports: n,
         frame: taken.frame,
-        rates: overlay(rates, &list, n * n),
+        rates: overlay(old.rates, &taken.rates, n * n),
     }
 }
 
@@ -28,11 +26,9 @@ pub fn cleared(taken: Plan) -> Plan
     ensures { result ≡ cleared taken }
 {
     let n = taken.ports;
-    let rates = taken.rates;
-    let zeros = [0u16; MOST_FLOWS];
     Plan {
         ports: 0,
         frame: 0,
-        rates: overlay(rates, &zeros, n * n),
+        rates: overlay(taken.rates, &[0; MOST_FLOWS], n * n),
     }
 }

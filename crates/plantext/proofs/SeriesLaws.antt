@@ -1,13 +1,15 @@
--- For the code, which takes digits and items one by one: what one more of them makes of the rules.
+-- For the code, which takes marks, digits and items one by one: what one of them makes of the rules.
 use Prim.Native.Nat.{ℕ, zero, suc, ◌+◌, ◌*◌, ◌-◌, ◌^◌, ◌<◌, ◌≤◌}
 use mathlib.Core.Path.{◌≡◌, refl, sym}
-use mathlib.Core.Bool.{true, false}
+use mathlib.Core.Bool.{Bool, true, false, cond}
 use mathlib.Core.List.{List, [], ◌∷◌, ◌++◌, append-nil}
 use mathlib.Core.Logic.{⊎_elim}
 use native.Mathlib.Nat.{pow-suc}
 use native.Mathlib.Numerals.{add-one}
 use native.Mathlib.Omega.{arith}
-use lib.ListN.{length, get_or, take, set}
+use lib.Dec.{eqb}
+use lib.ListN.{length, get_or, take, drop, set}
+use lib.Pointwise.{pointwise}
 use lib.Seq.{take-suc-set}
 use Rattle.std.specs.Prelude.{None}
 use Rattle.std.specs.List.{between}
@@ -16,6 +18,18 @@ use Rattle.plan.proofs.BelowLaws.{below_or_last}
 use Rattle.plantext.specs.Bytes.{is_digit, digit_of, comma}
 use Rattle.plantext.specs.Values.{Parsed, parsed, skip, digits_from, field, before, series}
 use Rattle.plantext.proofs.RuleLaws.{NoDigit}
+
+-- a mark is skipped if a text begins with it
+pub skip_prefix : (mark text : List ℕ) → skip mark text ≡ cond (pointwise eqb (take (length mark) text) mark) (parsed [] (drop (length mark) text)) None
+unfolding skip
+skip_prefix [] text = refl
+skip_prefix (m ∷ mark) [] = refl
+skip_prefix (m ∷ mark) (b ∷ text) = go (eqb b m) refl (skip_prefix mark text)
+  where
+    go : (is : Bool) → eqb b m ≡ is → skip mark text ≡ cond (pointwise eqb (take (length mark) text) mark) (parsed [] (drop (length mark) text)) None
+        → skip (m ∷ mark) (b ∷ text) ≡ cond (pointwise eqb (take (length (m ∷ mark)) (b ∷ text)) (m ∷ mark)) (parsed [] (drop (length (m ∷ mark)) (b ∷ text))) None
+    go true e later = rw e later
+    go false e later = rw e refl
 
 -- a text without a first byte, and one whose first byte is no digit
 pub no_digit_left : (text : List ℕ) → length text < 1 → NoDigit text

@@ -1,19 +1,18 @@
 // Records, and the text as a whole.
 ghost use Rattle.std.specs.Prelude.{[], ◌≡◌, ◌*◌, length, option_map};
-ghost use Rattle.plantext.specs.Bytes.{comma, line_end};
 ghost use Rattle.plantext.specs.Values as values;
 
-use crate::scan::{read_field, skip, skip_line_end};
+use crate::scan::{read_field, skip};
 
-// A comma stands before each field of a record but the first.
+// A mark stands before each item but the first.
 #[tactic(auto, unfolding(crate::specs::Values::skip))]
-fn field_start(text: &[u8], k: usize) -> Option<&[u8]>
-    ensures { option_map (λ rest. ([], rest.now)) result ≡ values.skip (values.before comma k) text.now }
+fn item_start<'a>(text: &'a [u8], mark: &[u8], k: usize) -> Option<&'a [u8]>
+    ensures { option_map (λ rest. ([], rest.now)) result ≡ values.skip (values.before mark.now k) text.now }
 {
     if k == 0 {
         return Some(text);
     }
-    skip(text, b',')
+    skip(text, mark)
 }
 
 // A record, one value to each place of the row.
@@ -23,23 +22,13 @@ fn read_record<'a>(text: &'a [u8], row: &mut [u16]) -> Option<&'a [u8]>
 {
     let mut rest = text;
     for (k, place) in row.iter_mut().enumerate() {
-        (*place, rest) = read_field(field_start(rest, k)?)?;
+        (*place, rest) = read_field(item_start(rest, b",", k)?)?;
     }
     Some(rest)
 }
 
-// CR LF stands before each record but the first.
-#[tactic(auto, unfolding(crate::specs::Values::skip))]
-fn record_start(text: &[u8], k: usize) -> Option<&[u8]>
-    ensures { option_map (λ rest. ([], rest.now)) result ≡ values.skip (values.before line_end k) text.now }
-{
-    if k == 0 {
-        return Some(text);
-    }
-    skip_line_end(text)
-}
-
-// The records of n inputs, a row of the list to each. By number: of a list lent by `chunks_exact_mut` a proof knows only the length.
+// The records of n inputs, a row of the list to each. By number: of a list that `chunks_exact_mut` lent, a proof knows only the
+// length.
 #[tactic(auto, using(crate::proofs::SeriesLaws::no_mark, crate::proofs::RowLaws::no_record, crate::proofs::RowLaws::record_next), unfolding(crate::specs::Values::series))]
 fn read_records<'a>(text: &'a [u8], n: usize, list: &mut [u16]) -> Option<&'a [u8]>
     requires { length list.old ≡ n * n }
@@ -48,7 +37,7 @@ fn read_records<'a>(text: &'a [u8], n: usize, list: &mut [u16]) -> Option<&'a [u
     let mut rest = text;
     for k in 0..n {
         let first = k * n;
-        rest = read_record(record_start(rest, k)?, &mut list[first..first + n])?;
+        rest = read_record(item_start(rest, b"\r\n", k)?, &mut list[first..first + n])?;
     }
     Some(rest)
 }

@@ -1,7 +1,6 @@
 // The rules of a text up to a field. Each function takes what it can from the beginning of a text, and answers what is left
 // behind that, or nothing if the text doesn't keep to the rule.
 ghost use Rattle.std.specs.Prelude.{[], ◌∷◌, ◌≡◌, option_map};
-ghost use Rattle.plantext.specs.Bytes.{line_end};
 ghost use Rattle.plantext.specs.Values as values;
 
 use crate::digit::{digit_of, is_digit};
@@ -16,25 +15,11 @@ struct Digits<'a> {
 
 const MOST_DIGITS: usize = 5;
 
-#[tactic(auto, unfolding(crate::specs::Values::skip))]
-pub fn skip(text: &[u8], mark: u8) -> Option<&[u8]>
-    ensures { option_map (λ rest. ([], rest.now)) result ≡ values.skip (mark ∷ []) text.now }
+#[tactic(auto, using(crate::proofs::SeriesLaws::skip_prefix))]
+pub fn skip<'a>(text: &'a [u8], mark: &[u8]) -> Option<&'a [u8]>
+    ensures { option_map (λ rest. ([], rest.now)) result ≡ values.skip mark.now text.now }
 {
-    match text {
-        [byte, rest @ ..] if *byte == mark => Some(rest),
-        _ => None,
-    }
-}
-
-// CR LF.
-#[tactic(auto, unfolding(crate::specs::Values::skip))]
-pub fn skip_line_end(text: &[u8]) -> Option<&[u8]>
-    ensures { option_map (λ rest. ([], rest.now)) result ≡ values.skip line_end text.now }
-{
-    match text {
-        [b'\r', b'\n', rest @ ..] => Some(rest),
-        _ => None,
-    }
+    text.strip_prefix(mark)
 }
 
 // As many digits as there are, five at most.
@@ -75,9 +60,9 @@ fn read_number(text: &[u8]) -> Option<(u16, &[u8])>
 pub fn read_field(text: &[u8]) -> Option<(u16, &[u8])>
     ensures { option_map (λ field. (field.0 ∷ [], field.1.now)) result ≡ values.field text.now }
 {
-    let Some(inside) = skip(text, b'"') else {
+    let Some(inside) = skip(text, b"\"") else {
         return read_number(text);
     };
     let (value, end) = read_number(inside)?;
-    Some((value, skip(end, b'"')?))
+    Some((value, skip(end, b"\"")?))
 }

@@ -1,13 +1,13 @@
 -- The operations' answers as plain records: numbers stand in the place of cases. A verdict is its number by
 -- `verdict_number_of`, a port's kind its number by `kind_of`.
 use Rattle.std.specs.Prelude.{ℕ, zero, suc, cond, List, eqb, set, replicate, Option, Some, None, Result, Ok, Err}
-use Rattle.refusal.specs.Number.{number_of, verdict_number_of}
-use Rattle.refusal.specs.declared.Refusal.{Refusal}
+use Rattle.refusal.specs.Number.{verdict_number_of}
 use Rattle.plan.specs.Range.{most_ports}
 use Rattle.plan.specs.NoPlan.{no_plan}
 use Rattle.plan.specs.declared.Plan.{Plan}
-use Rattle.meter.specs.declared.Measured.{Measured}
+use Rattle.refusal.specs.declared.Refusal.{Refusal}
 use Rattle.meter.specs.declared.Stretch.{Stretch}
+use Rattle.meter.specs.declared.Measured.{Measured}
 use Rattle.fabric.specs.Answer.{kind_of, answer_of}
 use Rattle.fabric.specs.declared.flow.Answer.{Answer}
 use Rattle.fabric.specs.declared.flow.Answer.TheVariants as answer
@@ -73,15 +73,15 @@ slot_record r =
       sends = port_records r.sends;
     }
 
--- "Where an operation was handed no state or plan and would answer one, the refusal's is all 0."
+-- of a file that is refused the plan is all 0
 abbrev pub reading_record : Result Plan Refusal → ReadingRecord
-reading_record (Ok plan) = record { verdict = 0; plan = plan }
-reading_record (Err why) = record { verdict = number_of why; plan = no_plan }
+reading_record (Ok plan) = record { verdict = verdict_number_of (Ok tt); plan = plan }
+reading_record (Err why) = record { verdict = verdict_number_of (Err why); plan = no_plan }
 
--- "the other numbers of a refused answer are 0"
-abbrev pub none : Stretch
-none = record { services = 0; place = 0 }
+-- and of a record that is refused both stretches are
+abbrev pub no_stretch : Stretch
+no_stretch = record { services = 0; place = 0 }
 
 abbrev pub cover_record : Result Measured Refusal → CoverRecord
-cover_record (Ok r) = record { verdict = 0; least = r.least; most = r.most }
-cover_record (Err why) = record { verdict = number_of why; least = none; most = none }
+cover_record (Ok measured) = record { verdict = verdict_number_of (Ok tt); least = measured.least; most = measured.most }
+cover_record (Err why) = record { verdict = verdict_number_of (Err why); least = no_stretch; most = no_stretch }

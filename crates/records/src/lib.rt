@@ -104,8 +104,8 @@ fn cell_of(answer: Answer) -> u32
     ensures { result ≡ cell_of answer }
 {
     match answer {
+        Answer::Idle | Answer::Empty(_) => 0,
         Answer::Moved(_, cell) => cell,
-        _ => 0,
     }
 }
 
@@ -113,7 +113,7 @@ fn cell_of(answer: Answer) -> u32
 impl From<Answer> for PortRecord {
     ghost from_gives = { λ answer r. r ≡ answer_record answer };
 
-    fn from(answer: Answer) -> Self {
+    fn from(answer: Answer) -> PortRecord {
         PortRecord {
             kind: kind_of(answer),
             other: other_of(answer),
@@ -129,7 +129,7 @@ fn port_records(answers: [Answer; MOST_PORTS]) -> [PortRecord; MOST_PORTS]
 {
     let mut records = [PortRecord::from(Answer::Idle); MOST_PORTS];
     for (p, record) in records.iter_mut().enumerate() {
-        *record = answers[p].into();
+        *record = PortRecord::from(answers[p]);
     }
     records
 }
@@ -137,7 +137,7 @@ fn port_records(answers: [Answer; MOST_PORTS]) -> [PortRecord; MOST_PORTS]
 impl From<Option<usize>> for ChoiceRecord {
     ghost from_gives = { λ choice r. r ≡ choice_record choice };
 
-    fn from(choice: Option<usize>) -> Self {
+    fn from(choice: Option<usize>) -> ChoiceRecord {
         match choice {
             None => ChoiceRecord {
                 kind: NO_FLOW,
@@ -152,18 +152,19 @@ impl From<Option<usize>> for ChoiceRecord {
 impl From<ChoiceRecord> for Option<usize> {
     ghost from_gives = { λ choice r. r ≡ choice_in choice };
 
-    fn from(choice: ChoiceRecord) -> Self {
+    fn from(choice: ChoiceRecord) -> Option<usize> {
         if choice.kind == NO_FLOW {
-            return None;
+            None
+        } else {
+            Some(choice.flow)
         }
-        Some(choice.flow)
     }
 }
 
 impl From<Reply> for ReplyRecord {
     ghost from_gives = { λ reply r. r ≡ reply_record reply };
 
-    fn from(reply: Reply) -> Self {
+    fn from(reply: Reply) -> ReplyRecord {
         ReplyRecord {
             verdict: verdict_number(reply.verdict),
             state: reply.state,
@@ -174,51 +175,60 @@ impl From<Reply> for ReplyRecord {
 impl From<SlotReply> for SlotRecord {
     ghost from_gives = { λ reply r. r ≡ slot_record reply };
 
-    fn from(reply: SlotReply) -> Self {
+    fn from(reply: SlotReply) -> SlotRecord {
+        let SlotReply {
+            state,
+            verdict,
+            moves,
+            sends,
+        } = reply;
         SlotRecord {
-            verdict: verdict_number(reply.verdict),
-            state: reply.state,
-            moves: port_records(reply.moves),
-            sends: port_records(reply.sends),
+            verdict: verdict_number(verdict),
+            state,
+            moves: port_records(moves),
+            sends: port_records(sends),
         }
     }
 }
 
-// A refused file has no plan: all is 0.
 impl From<Result<Plan, Refusal>> for ReadingRecord {
     ghost from_gives = { λ reading r. r ≡ reading_record reading };
 
-    fn from(reading: Result<Plan, Refusal>) -> Self {
+    fn from(reading: Result<Plan, Refusal>) -> ReadingRecord {
         match reading {
-            Ok(plan) => ReadingRecord { verdict: 0, plan },
+            Ok(plan) => ReadingRecord {
+                verdict: verdict_number(Ok(())),
+                plan,
+            },
             Err(refusal) => ReadingRecord {
-                verdict: u32::from(refusal.number()),
+                verdict: verdict_number(Err(refusal)),
                 plan: no_plan(),
             },
         }
     }
 }
 
-// A refused record has no stretches: all is 0.
 impl From<Result<Measured, Refusal>> for CoverRecord {
     ghost from_gives = { λ measured r. r ≡ cover_record measured };
 
-    fn from(measured: Result<Measured, Refusal>) -> Self {
-        let none = Stretch {
-            services: 0,
-            place: 0,
-        };
+    fn from(measured: Result<Measured, Refusal>) -> CoverRecord {
         match measured {
             Ok(Measured { least, most }) => CoverRecord {
-                verdict: 0,
+                verdict: verdict_number(Ok(())),
                 least,
                 most,
             },
-            Err(refusal) => CoverRecord {
-                verdict: u32::from(refusal.number()),
-                least: none,
-                most: none,
-            },
+            Err(refusal) => {
+                let none = Stretch {
+                    services: 0,
+                    place: 0,
+                };
+                CoverRecord {
+                    verdict: verdict_number(Err(refusal)),
+                    least: none,
+                    most: none,
+                }
+            }
         }
     }
 }

@@ -3,33 +3,32 @@ use Prim.Native.Nat.{ℕ, ◌+◌, ◌*◌, ◌<◌, ◌≤◌, min}
 use mathlib.Core.Path.{◌≡◌, refl}
 use mathlib.Core.Bool.{true, false}
 use mathlib.Core.List.{List, [], ◌∷◌}
-use mathlib.Core.Option.{none, some}
+use Rattle.std.specs.Prelude.{None, Some}
 use native.Mathlib.Omega.{arith}
 use lib.ListN.{length, get_or, drop}
 use Rattle.plantext.specs.Bytes.{is_digit, digit_of}
 use Rattle.plantext.proofs.PlaceLaws.{left_none, left_some}
-use Rattle.sheet.specs.Argument.{largest_number, number_from, told_as, argument_of}
-use Rattle.sheet.specs.declared.argument.Argument.TheVariants.{Other}
+use Rattle.sheet.specs.Argument.{largest_number, number_from, argument_of}
 
-pub argument_none : (text : List ℕ) → length text ≡ 0 → argument_of text ≡ Other
+pub argument_none : (text : List ℕ) → length text ≡ 0 → argument_of text ≡ None
 unfolding argument_of
 argument_none [] e = refl
 argument_none (b ∷ text) e = absurd (omega arith)
 
-pub argument_some : (text : List ℕ) → (length text ≡ 0 → ⊥) → argument_of text ≡ told_as (number_from 0 text)
+pub argument_some : (text : List ℕ) → 0 < length text → argument_of text ≡ number_from 0 text
 unfolding argument_of
-argument_some [] ne = absurd (ne refl)
-argument_some (b ∷ text) ne = refl
+argument_some [] some = absurd (omega arith)
+argument_some (b ∷ text) some = refl
 
 module _ (text : List ℕ) (p value : ℕ) where
   pub number_next : p < length text → is_digit (get_or text p 0) ≡ true → number_from value (drop p text) ≡ number_from (min (value * 10 + digit_of (get_or text p 0)) largest_number) (drop (p + 1) text)
   unfolding number_from
   number_next h e = rw (left_some text p h, e) refl
 
-  pub number_stops : p < length text → is_digit (get_or text p 0) ≡ false → number_from value (drop p text) ≡ none
+  pub number_stops : p < length text → is_digit (get_or text p 0) ≡ false → number_from value (drop p text) ≡ None
   unfolding number_from
   number_stops h e = rw (left_some text p h, e) refl
 
-  pub number_ends : length text ≤ p → number_from value (drop p text) ≡ some value
+  pub number_ends : length text ≤ p → number_from value (drop p text) ≡ Some value
   unfolding number_from
   number_ends h = rw (left_none text p h) refl

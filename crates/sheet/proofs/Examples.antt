@@ -13,9 +13,9 @@ use Rattle.plantext.specs.Bytes.{is_digit}
 use Rattle.plantext.specs.Values.{skip, digits_from, number, field, series, ends, values_of}
 use Rattle.plantext.specs.Read.{verdict_of, read_text_of}
 use Rattle.plantext.proofs.Ascii.{ascii}
+use Rattle.std.specs.Prelude.{None, Some}
 use Rattle.sheet.specs.Argument.{largest_number, number_from, argument_of}
 use Rattle.sheet.specs.Sheet.{sheet_of}
-use Rattle.sheet.specs.declared.argument.Argument.TheVariants.{Number, Other}
 
 -- "4C 53 50 01 00 02 02 00 01 00 01 00 01 00 00 00 (hexadecimal)"
 scope_plan : let file = sheet_of 2 2 (ascii "1,1\r\n1,0\r\n") in (file.verdict ≡ Ok tt)
@@ -32,13 +32,13 @@ unfolding sheet_of read_text_of verdict_of skip digits_from number field series 
 refused = (refl, refl, refl, refl)
 
 arguments :
-    (argument_of (ascii "15") ≡ Number 15)
-    × (argument_of (ascii "0003") ≡ Number 3)
-    × (argument_of (ascii "99999999999999999999") ≡ Number largest_number)
-    × (argument_of [] ≡ Other)
-    × (argument_of (ascii "x") ≡ Other)
-    × (argument_of (ascii "-1") ≡ Other)
-    × (argument_of (ascii " 3") ≡ Other)
-    × (argument_of (ascii "3.0") ≡ Other)
+    (argument_of (ascii "15") ≡ Some 15)
+    × (argument_of (ascii "0003") ≡ Some 3)
+    × (argument_of (ascii "99999999999999999999") ≡ Some largest_number)
+    × (argument_of [] ≡ None)
+    × (argument_of (ascii "x") ≡ None)
+    × (argument_of (ascii "-1") ≡ None)
+    × (argument_of (ascii " 3") ≡ None)
+    × (argument_of (ascii "3.0") ≡ None)
 unfolding argument_of number_from is_digit
 arguments = (refl, refl, refl, refl, refl, refl, refl, refl)

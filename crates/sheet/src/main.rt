@@ -1,17 +1,20 @@
 // Reads a plan's text from standard input and writes the plan file to standard output. N and T are the arguments.
 #![tactic(auto)]
 
-ghost use Rattle.std.specs.Prelude.{◌≡◌, length};
-ghost use Rattle.sheet.specs.Sheet.{most_input};
+ghost use Rattle.std.specs.Prelude.{◌≡◌, ◌≤◌, length, IfOk, IfSome};
+ghost use Rattle.sheet.specs.Sheet.{sheet_of};
 
-use crate::argument::{Argument, read_argument};
+use crate::argument::read_argument;
 use crate::plan_file::plan_file;
-use console::failure::fail;
-use console::input::{Input, read_input};
+use arrayvec::ArrayString;
+use console::failure::{Failure, report};
+use console::input::read_input;
 use console::text::{REFUSAL_ROOM, refusal_line};
+use planfile::writing::Writing;
 use plantext::MOST_TEXT;
 use refusal::Refusal;
 use std::env::{Env, FillError};
+use std::io::{self, Read};
 
 mod argument;
 mod plan_file;
@@ -22,79 +25,65 @@ const LONGEST_ARGUMENT: usize = 131072;
 // One byte more than the longest text has: the bytes past these change nothing (proofs/SheetLaws.antt).
 const MOST_INPUT: usize = MOST_TEXT + 1;
 
-fn input_room() -> [u8; MOST_INPUT]
-    ensures { length result ≡ most_input }
-{
-    [0; MOST_INPUT]
-}
-
 fn usage(rt: &HostRuntime) {
     let _ = eprintln!(rt; "use: sheet N T <plan.csv >plan.lsp");
 }
 
 #[tactic(auto, using(console::proofs::TextLaws::refusal_short))]
 fn refuse(rt: &HostRuntime, verdict: Result<(), Refusal>) {
-    let mut line = [0u8; REFUSAL_ROOM];
-    let end = refusal_line(&mut line, 0, verdict);
-    let _ = rt.stderr().write_all(&line[..end]);
-}
-
-fn print(rt: &HostRuntime, file: &[u8]) {
-    if let Err(error) = rt.write_all(file) {
-        fail(rt, "standard output", error);
-    }
+    let mut line = ArrayString::<REFUSAL_ROOM>::new();
+    refusal_line(&mut line, verdict);
+    let _ = rt.stderr().write_all(line.as_bytes());
 }
 
 // Whether there is an argument at a place, as long as it may be.
 fn is_given(rt: &HostRuntime, place: usize) -> bool {
-    match rt.arg(place, &mut []) {
-        Err(FillError::NotPresent) => false,
-        _ => true,
-    }
+    !matches!(rt.arg(place, &mut []), Err(FillError::NotPresent))
 }
 
-// The argument at a place; a missing one is no number.
-fn argument_at(rt: &HostRuntime, place: usize) -> Argument {
+// The number at a place; a missing argument is none.
+fn argument_at(rt: &HostRuntime, place: usize) -> Option<u32> {
     let mut text = [0u8; LONGEST_ARGUMENT];
-    match rt.arg(place, &mut text) {
-        Ok(len) => read_argument(&text[..len]),
-        Err(_) => Argument::Other,
+    let len = rt.arg(place, &mut text).ok()?;
+    read_argument(&text[..len])
+}
+
+// N and T, if there are two arguments and both are numbers.
+fn arguments(rt: &HostRuntime) -> Option<(u32, u32)> {
+    if is_given(rt, 3) {
+        return None;
     }
+    let n = argument_at(rt, 1)?;
+    let t = argument_at(rt, 2)?;
+    Some((n, t))
+}
+
+// The plan file of the text that an input has.
+fn read_sheet<R: Read>(input: &mut R, n: u32, t: u32) -> io::Result<Writing>
+    ensures within { IfOk result (λ file. file.length ≤ length file.bytes) }
+    ensures sheet { IfOk result (λ file. IfSome (R.remaining input.old) (λ text. file ≡ sheet_of n t text)) }
+{
+    let mut text = [0u8; MOST_INPUT];
+    let len = read_input(input, &mut text)?;
+    Ok(plan_file(n as usize, t, &text[..len]))
 }
 
 // Standard input to standard output.
-fn convert(rt: &HostRuntime, n: u32, t: u32) {
-    let mut text = input_room();
-    let len = match read_input(&mut rt.stdin(), &mut text) {
-        Input::Bytes(len) => len,
-        Input::Failed(error) => {
-            fail(rt, "standard input", error);
-            return;
-        }
-    };
-    let file = plan_file(n as usize, t, &text[..len]);
+fn convert(rt: &HostRuntime, n: u32, t: u32) -> Result<(), Failure> {
+    let file = read_sheet(&mut rt.stdin(), n, t).map_err(Failure::Input)?;
     let verdict = file.verdict;
     let Ok(()) = verdict else {
         refuse(rt, verdict);
-        return;
+        return Ok(());
     };
     let bytes = file.bytes;
     let length = file.length;
-    print(rt, &bytes[..length]);
+    rt.write_all(&bytes[..length]).map_err(Failure::Output)
 }
 
 fn main(rt: HostRuntime) {
-    if is_given(&rt, 3) {
-        usage(&rt);
-        return;
+    match arguments(&rt) {
+        Some((n, t)) => report(&rt, convert(&rt, n, t)),
+        None => usage(&rt),
     }
-    let Argument::Number(n) = argument_at(&rt, 1) else {
-        usage(&rt);
-        return;
-    };
-    let Argument::Number(t) = argument_at(&rt, 2) else {
-        usage(&rt);
-        return;
-    };
-    convert(&rt, n, t);
 }

@@ -11,10 +11,7 @@ use plantext::read_text;
 fn flows(n: usize) -> usize
     ensures { result ≡ cond (ports_in_range n) (n * n) 0 }
 {
-    if !ports_in_range(n) {
-        return 0;
-    }
-    n * n
+    if ports_in_range(n) { n * n } else { 0 }
 }
 
 pub fn plan_file(n: usize, t: u32, text: &[u8]) -> Writing

@@ -1,6 +1,5 @@
 pub mod ListLaws
 pub mod TouchLaws
-pub mod LoopLaws
 pub mod PlaceLaws
 pub mod CountLaws
 pub mod NameLaws

@@ -1,5 +1,4 @@
 pub mod Choices
 pub mod Columns
 pub mod Counts
-pub mod Places
 pub mod Valid

@@ -3,7 +3,7 @@ ghost use Rattle.std.specs.Prelude.{◌≡◌, ◌*◌, ◌<◌, ◌≤◌, leng
 ghost use Rattle.plan.specs.Range.{most_ports};
 ghost use Rattle.side.specs.Columns.{transposed_row, transposed};
 
-use crate::places::flow_place;
+use plan::lines::flow_place;
 use plan::range::MOST_FLOWS;
 
 // Column j of the rates becomes row j of the array.

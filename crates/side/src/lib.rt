@@ -3,5 +3,4 @@
 
 pub mod choices;
 pub mod columns;
-pub mod places;
 pub mod valid;

@@ -29,7 +29,7 @@ use Rattle.console.specs.Refused.{refusal_line_of}
 use Rattle.console.specs.TextBelow.{text_below}
 use Rattle.smoothness.specs.Head.{board_lines_of, rates_lines_of}
 use Rattle.smoothness.specs.Input.{most_input}
-use Rattle.smoothness.specs.Printout.{line_of, stretches, stretches_of, counts, flow_lines_of, head_lines_of, header_text, printout_of}
+use Rattle.smoothness.specs.Printout.{line_of, stretches_of, counts, flow_lines_of, head_lines_of, header_text, printout_of}
 use Rattle.smoothness.proofs.StretchLaws.{length_at}
 
 -- The lines of one flow: one for each length that counts.

@@ -34,11 +34,10 @@ fn flow_lines(out: &mut Text, recorded: &[u16], flow: Flow)
 {
     let frame = flow.frame;
     let lengths = [1, frame / 4, frame / 2, frame];
-    for k in 0..STRETCHES {
+    for (k, &l) in lengths.iter().enumerate() {
         if !counts(lengths, k) {
             continue;
         }
-        let l = lengths[k];
         let measured = cover(recorded, flow.board as u16, l as usize);
         line(out, flow, l, measured);
     }
@@ -50,8 +49,7 @@ fn flows_lines(out: &mut Text, recorded: &[u16], rates: &[u16], head: usize, fra
     requires { (1 ≤ frame) × (length rates.now ≤ most_ports) × (array_string_len out.old + length (flows_lines_of recorded.now rates.now head frame) ≤ printout_room) }
     ensures { out.new.bytes ≡ out.old.bytes ++ flows_lines_of recorded.now rates.now head frame }
 {
-    for board in 0..rates.len() {
-        let rate = rates[board];
+    for (board, &rate) in rates.iter().enumerate() {
         if rate == 0 {
             continue;
         }

@@ -38,10 +38,9 @@ pub fn record_frames(rates: &[u16], frame: u32, recorded: &mut [u16])
         served: [0; MOST_PORTS],
     };
     let mut slot = 0;
-    for place in 0..3 * frame as usize {
+    for place in &mut recorded[..3 * frame as usize] {
         let served = port.serve(rates, frame, slot);
-        let choice = served.choice;
-        recorded[place] = entry(choice);
+        *place = entry(served.choice);
         port = served.port;
         slot = next_slot(slot, frame);
     }

@@ -19,8 +19,8 @@ pub loop-i-preserved : goal.loop-i-preserved
 loop-i-preserved c =
     let here = among c.args.n c.loop-i.i c.args.choices (omega (arith, c.well_formed, c.requires.few_ports)) c.loop-i-test.true in
     elim c.match-choice.branch [
-      in-Some+else-not-has_room w ↦ room_flow_step _ _ _ _ _ _ _ c.loop-i.invariant (here.1 ∙ widened w.in-Some.is w.from.ensures) w.flow_place-k.ensures.is (passed w.has_room.ensures w.if-not-has_room.false)
-    | in_default w ↦ room_idle_step _ _ _ _ _ c.loop-i.invariant (here.1 ∙ w.in_default.is)
+      | in-Some+else-not-has_room w ↦ room_flow_step _ _ _ _ _ _ _ c.loop-i.invariant (here.1 ∙ widened w.in-Some.is w.from.ensures) w.flow_place-k.ensures.is (passed w.has_room.ensures w.if-not-has_room.false)
+      | in_default w ↦ room_idle_step _ _ _ _ _ c.loop-i.invariant (here.1 ∙ w.in_default.is)
     ]
 
 pub returns : goal.returns

@@ -1,4 +1,4 @@
-use Rattle.std.proofs.Common.{ℕ, List, ◌<◌, ◌≡◌, ap, sym, arith, length, take, get_or, get_or-take, length-take}
+use Rattle.std.proofs.Common.{ℕ, List, ◌<◌, ◌≡◌, ap, sym, arith, length, take, get_or-take, length-take}
 use Rattle.fabric.specs.Answer.{port, answer_of}
 use Rattle.fabric.specs.declared.flow.Answer.TheVariants.{Idle}
 use Rattle.fabric.specs.declared.flow.Port.{Port}

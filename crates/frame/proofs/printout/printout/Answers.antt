@@ -1,4 +1,4 @@
-use Rattle.std.proofs.Common.{arith, ap, length, length-append, refl}
+use Rattle.std.proofs.Common.{arith, ap, length, refl}
 use Rattle.frame.proofs.PrintoutLaws.{by_reading, few_ports}
 use Rattle.frame.proofs.RoomLaws.{printout_short}
 use Rattle.frame.proofs.printout.printout.Goals as goal

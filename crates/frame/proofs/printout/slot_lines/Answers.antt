@@ -23,9 +23,9 @@ slot_line-requires c = (
   omega (
     arith,
     begun_room_next c.loop-slot.invariant
-    (slot_line_of c.loop-slot.slot c.step-done.result.moves c.step-done.result.sends c.args.n)
-    _
-    ((by_step _ _ _ _ _ _ c.loop-slot-test.true c.step-done.ensures.defined).accepted c.in-Ok.is),
+        (slot_line_of c.loop-slot.slot c.step-done.result.moves c.step-done.result.sends c.args.n)
+        _
+        ((by_step _ _ _ _ _ _ c.loop-slot-test.true c.step-done.ensures.defined).accepted c.in-Ok.is),
     c.requires.1,
   ),
 )

@@ -4,4 +4,4 @@ use Rattle.meter.proofs.AnswerLaws.{cover_only}
 use Rattle.gambyre.proofs.meters.gambyre_cover.Goals as goal
 
 pub returns : goal.returns
-returns c = c.into.ensures ∙ ap cover_record (cover_only _ _ _ _ c.cover.ensures)
+returns c = c.from.ensures ∙ ap cover_record (cover_only _ _ _ _ c.cover.ensures)

@@ -1,5 +1,5 @@
-use Rattle.std.proofs.Common.{arith, ap, length, refl, sym}
-use Rattle.console.proofs.TextLaws.{put_on, put_sizes}
+use Rattle.std.proofs.Common.{arith, ap, length, refl}
+use Rattle.console.proofs.TextLaws.{put_sizes}
 use Rattle.smoothness.specs.Printout.{header_text}
 use Rattle.smoothness.proofs.PrintoutLaws.{accepted_printout, refused_printout, plan_read}
 use Rattle.smoothness.proofs.RoomLaws.{printout_short}
@@ -17,8 +17,7 @@ returns-in_default c =
 pub heads_lines-requires : goal.heads_lines-requires
 heads_lines-requires c =
     let plan = (plan_read _ _ c.read-reading.ensures c.in-Ok.is).is_plan in
-    let text = accepted_printout _ _ c.read-reading.ensures c.in-Ok.is in
-    (
+    let text = accepted_printout _ _ c.read-reading.ensures c.in-Ok.is in (
       plan.few_ports,
       plan.some_slot,
       plan.few_slots,

@@ -1,5 +1,5 @@
-use mathlib.Core.Path.{sym, ◌∙◌}
-use native.Mathlib.Omega.{arith}
+use Rattle.std.proofs.Common.{◌≡◌, ◌∙◌, ◌*◌, arith, length, length-take, sym}
+use Rattle.std.proofs.lemmas.List.{take-append-le}
 use Rattle.side.proofs.NameLaws.{choose_names}
 use Rattle.smoothness.proofs.RecordLaws.{record_start, record_step, record_end}
 use Rattle.smoothness.proofs.record.record_frames.Goals as goal
@@ -15,10 +15,15 @@ loop-place-preserved c =
     let l = c.loop-place in
     let a = c.args in
     let next = c.next_slot-slot.ensures in
-    let step = record_step l.recorded l.place l.port a.rates.now a.frame l.slot _ _ _ (omega arith) (omega arith) c.serve-served.ensures c.entry.ensures next.0 in
+    let all = length-take (3 * a.frame) a.recorded.now in
+    let step = record_step l.place-items l.place-index l.port a.rates.now a.frame l.slot _ _ _ (omega arith) (omega (arith, all)) c.serve-served.ensures c.entry.ensures next.0 in
     (next.1, step ∙ l.invariant.1)
 
 pub returns : goal.returns
 returns c =
     let l = c.loop-place in
-    sym (record_end l.recorded l.place l.port _ _ l.slot (omega arith)) ∙ l.invariant.1
+    let T = c.args.frame in
+    let all : length l.place-items ≡ 3 * T = omega (arith, l.auto.place-items, length-take (3 * T) c.args.recorded.now, c.requires.1) in
+    take-append-le (3 * T) l.place-items _ (omega arith)
+    ∙ sym (record_end l.place-items l.place-index l.port _ _ l.slot (omega (arith, l.auto.place-items, l.auto.place-index-end)))
+    ∙ l.invariant.1
