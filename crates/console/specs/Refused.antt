@@ -1,19 +1,15 @@
 -- The line of a refusal: "prints "refused", a space and its number", and "each line ends in LF".
-use Rattle.std.specs.Prelude.{ℕ, ◌+◌, List, [], ◌∷◌, ◌++◌}
+use Rattle.std.specs.Prelude.{ℕ, ◌+◌, List, ◌++◌, codes}
 use Rattle.refusal.specs.Number.{verdict_number_of}
 use Rattle.refusal.specs.Verdict.{Verdict}
 use Rattle.console.specs.Text.{decimal_of}
 
--- "refused" and a space
-abbrev refused_name : List ℕ
-refused_name = 114 ∷ 101 ∷ 102 ∷ 117 ∷ 115 ∷ 101 ∷ 100 ∷ 32 ∷ []
-
 -- LF
 abbrev pub line_end : List ℕ
-line_end = 10 ∷ []
+line_end = codes "\n"
 
 unfoldable pub refusal_line_of : Verdict → List ℕ
-refusal_line_of v = refused_name ++ decimal_of (verdict_number_of v) ++ line_end
+refusal_line_of v = codes "refused " ++ decimal_of (verdict_number_of v) ++ line_end
 
 -- room for every such line: the word and a space, a number of 64 bits, LF
 abbrev pub refusal_room : ℕ

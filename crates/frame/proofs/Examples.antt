@@ -2,6 +2,7 @@
 use Prim.Native.Nat.{ℕ}
 use mathlib.Core.List.{List, [], ◌∷◌, ◌++◌}
 use mathlib.Core.Path.{◌≡◌, refl}
+use Rattle.std.specs.Prelude.{codes}
 use Rattle.plan.specs.Below.{list_below}
 use Rattle.plan.specs.Lines.{row_sum, column_sum}
 use Rattle.plan.specs.Range.{ports_in_range, frame_in_range}
@@ -33,23 +34,20 @@ use Rattle.frame.specs.Printout.{header_of, slot_line_of, slot_lines_of, frame_p
 abbrev scope_file : List ℕ
 scope_file = 0x4c ∷ 0x53 ∷ 0x50 ∷ 0x01 ∷ 0x00 ∷ 0x02 ∷ 0x02 ∷ 0x00 ∷ 0x01 ∷ 0x00 ∷ 0x01 ∷ 0x00 ∷ 0x01 ∷ 0x00 ∷ 0x00 ∷ 0x00 ∷ []
 
--- slot in0 in1 out0 out1
 abbrev header : List ℕ
-header = 115 ∷ 108 ∷ 111 ∷ 116 ∷ 32 ∷ 105 ∷ 110 ∷ 48 ∷ 32 ∷ 105 ∷ 110 ∷ 49 ∷ 32 ∷ 111 ∷ 117 ∷ 116 ∷ 48 ∷ 32 ∷ 111 ∷ 117 ∷ 116 ∷ 49 ∷ 10 ∷ []
+header = codes "slot in0 in1 out0 out1\n"
 
--- 0 0 0 0 0
 abbrev slot0 : List ℕ
-slot0 = 48 ∷ 32 ∷ 48 ∷ 32 ∷ 48 ∷ 32 ∷ 48 ∷ 32 ∷ 48 ∷ 10 ∷ []
+slot0 = codes "0 0 0 0 0\n"
 
--- 1 1 - 1 -
 abbrev slot1 : List ℕ
-slot1 = 49 ∷ 32 ∷ 49 ∷ 32 ∷ 45 ∷ 32 ∷ 49 ∷ 32 ∷ 45 ∷ 10 ∷ []
+slot1 = codes "1 1 - 1 -\n"
 
 case_10 : printout_of scope_file ≡ header ++ slot0 ++ slot1
 unfolding printout_of read_of verdict_of is_marked rates_of padded_to frame_printout_of start_of start_verdict fresh_with overlaid slot_lines_of step_of step_verdict after_slot takeover_of valid_of plans_valid plan_valid flows_valid ports_valid port_valid depth_in_range store_fits board_choices head_choices choices_of room_for_all room_for moves_of board_moves move_of sends_of head_sends send_of counts_of counts_after cleared_below choose_of best_of better eligible rounded_up accept_of ports_in_range frame_in_range row_sum column_sum list_below header_of slot_line_of text_below digits_of
 case_10 = refl
 
 -- the table's small example for number 15: refused 15
-empty_file : printout_of [] ≡ 114 ∷ 101 ∷ 102 ∷ 117 ∷ 115 ∷ 101 ∷ 100 ∷ 32 ∷ 49 ∷ 53 ∷ 10 ∷ []
+empty_file : printout_of [] ≡ codes "refused 15\n"
 unfolding printout_of read_of verdict_of refusal_line_of digits_of
 empty_file = refl

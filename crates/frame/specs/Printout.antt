@@ -2,7 +2,7 @@
 -- then a line a slot with the slot, the output chosen by each input, the input chosen by each output, "-" for idle. The
 -- header names the ports below N as shown; one space parts the fields and each line ends in LF. The program stops at the
 -- first refusal and prints "refused", a space and its number."
-use Rattle.std.specs.Prelude.{ℕ, zero, suc, ◌+◌, ◌*◌, List, [], ◌∷◌, ◌++◌, replicate}
+use Rattle.std.specs.Prelude.{ℕ, zero, suc, ◌+◌, ◌*◌, List, [], ◌++◌, replicate, codes}
 use Rattle.refusal.specs.Chain.{if_accepted}
 use Rattle.plan.specs.Range.{most_ports, most_slots}
 use Rattle.plan.specs.declared.Plan.{Plan}
@@ -18,17 +18,12 @@ use Rattle.console.specs.Text.{decimal_of, field_of}
 use Rattle.console.specs.Refused.{line_end, refusal_line_of}
 use Rattle.console.specs.TextBelow.{text_below}
 
--- "slot"
-abbrev slot_name : List ℕ
-slot_name = 115 ∷ 108 ∷ 111 ∷ 116 ∷ []
-
--- " in", with the space that parts it from the field before
+-- the names of the sides, with the space that parts each from the field before
 abbrev pub input_name : List ℕ
-input_name = 32 ∷ 105 ∷ 110 ∷ []
+input_name = codes " in"
 
--- " out"
 abbrev pub output_name : List ℕ
-output_name = 32 ∷ 111 ∷ 117 ∷ 116 ∷ []
+output_name = codes " out"
 
 -- the ports below n, each by its side's name and its number
 abbrev pub names_of : List ℕ → ℕ → List ℕ
@@ -36,11 +31,11 @@ names_of side n = text_below (λ p. side ++ decimal_of p) n
 
 -- "The header names the ports below N as shown"
 unfoldable pub header_of : ℕ → List ℕ
-header_of n = slot_name ++ names_of input_name n ++ names_of output_name n ++ line_end
+header_of n = codes "slot" ++ names_of input_name n ++ names_of output_name n ++ line_end
 
 -- the port that was chosen, "-" for idle
 abbrev pub choice_of : Answer → List ℕ
-choice_of Idle = 32 ∷ 45 ∷ []
+choice_of Idle = codes " -"
 choice_of (Empty other) = field_of other
 choice_of (Moved other cell) = field_of other
 

@@ -28,8 +28,7 @@ fn choice(out: &mut Text, answer: Answer)
 {
     match answer {
         Answer::Idle => out.push_str(" -"),
-        Answer::Empty(other) => field(out, other as u64),
-        Answer::Moved(other, _) => field(out, other as u64),
+        Answer::Empty(other) | Answer::Moved(other, _) => field(out, other as u64),
     }
 }
 

@@ -1,5 +1,5 @@
 // Plans: acceptance, the desk view, the regulator, the plan file and the plan's text.
-ghost use Rattle.std.specs.Prelude.{◌≡◌, min};
+ghost use Rattle.std.specs.Prelude.{◌≡◌};
 ghost use Rattle.refusal.specs.Number.{verdict_number_of};
 ghost use Rattle.plan.specs.Accept.{accept_of};
 ghost use Rattle.plan.specs.Desk.{desk_of};
@@ -26,20 +26,13 @@ pub extern "C" fn gambyre_accept(n: usize, t: u32, rates: &[u16]) -> u32
     verdict_number(accept(n, t, rates))
 }
 
-fn smaller(a: usize, b: usize) -> usize
-    ensures { result ≡ min a b }
-{
-    if a < b { a } else { b }
-}
-
 // Copies as much of the row as `out` takes, and answers the row's length.
-#[tactic(auto, using(planpair::proofs::RateLaws::overlaid_none, planpair::proofs::RateLaws::overlaid_next))]
+#[tactic(auto, using(planpair::proofs::RateLaws::overlaid_front))]
 fn copy_row(row: &[u16], out: &mut [u16]) -> usize
     ensures { numbered result out.new ≡ view_record row.now out.old }
 {
-    for k in 0..smaller(row.len(), out.len()) {
-        out[k] = row[k];
-    }
+    let count = row.len().min(out.len());
+    out[..count].copy_from_slice(&row[..count]);
     row.len()
 }
 

@@ -40,7 +40,7 @@ none_smooth : (flow a T : ℕ) → Smooth [] flow a T
 none_smooth flow a T =
     record {
       everywhere = λ l t some inside. absurd (omega arith);
-      measured = λ l r some covers e. absurd (omega (arith, (covers_measures [] flow l r covers e).least.inside));
+      measured = λ l r some covers. absurd (omega (arith, (covers_measures [] flow l r covers).least.inside));
     }
 
 -- in slot 0 a head begins its frame

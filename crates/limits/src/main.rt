@@ -26,13 +26,13 @@ fn plan_rows(rt: &impl Print) {
     ports(rt, 0, &[0; 0]);
     frame(rt, 1);
     frame(rt, 0);
-    plan(rt, b"N = 2, 4 rates", 2, 3, &[0; 4]);
-    plan(rt, b"N = 2, 3 rates", 2, 3, &[0; 3]);
-    plan(rt, b"N = 2, 5 rates", 2, 3, &[0; 5]);
-    plan(rt, b"T = 3, row 1 2", 2, 3, &[1, 2, 0, 0]);
-    plan(rt, b"T = 3, row 2 2", 2, 3, &[2, 2, 0, 0]);
-    plan(rt, b"T = 3, rows 2 0 and 1 0", 2, 3, &[2, 0, 1, 0]);
-    plan(rt, b"T = 3, rows 2 0 and 2 0", 2, 3, &[2, 0, 2, 0]);
+    plan(rt, "N = 2, 4 rates", 2, 3, &[0; 4]);
+    plan(rt, "N = 2, 3 rates", 2, 3, &[0; 3]);
+    plan(rt, "N = 2, 5 rates", 2, 3, &[0; 5]);
+    plan(rt, "T = 3, row 1 2", 2, 3, &[1, 2, 0, 0]);
+    plan(rt, "T = 3, row 2 2", 2, 3, &[2, 2, 0, 0]);
+    plan(rt, "T = 3, rows 2 0 and 1 0", 2, 3, &[2, 0, 1, 0]);
+    plan(rt, "T = 3, rows 2 0 and 2 0", 2, 3, &[2, 0, 2, 0]);
 }
 
 fn switch_rows(rt: &impl Print) {
@@ -54,27 +54,27 @@ fn switch_rows(rt: &impl Print) {
 }
 
 fn file_rows(rt: &impl Print) {
-    file(rt, b"version 1", b"LSP\x01\x00\x01\x01\x00\x01\x00");
-    file(rt, b"version 2", b"LSP\x02\x00\x01\x01\x00\x01\x00");
+    file(rt, "version 1", b"LSP\x01\x00\x01\x01\x00\x01\x00");
+    file(rt, "version 2", b"LSP\x02\x00\x01\x01\x00\x01\x00");
     file(
         rt,
-        b"file with a rate too many",
+        "file with a rate too many",
         b"LSP\x01\x00\x01\x01\x00\x01\x00\x00\x00",
     );
-    file(rt, b"empty file", b"");
+    file(rt, "empty file", b"");
 }
 
 // Number 16 of the request for texts, after 3 and before 4.
 fn text_rows(rt: &impl Print) {
-    text(rt, b"field 00001", b"00001\r\n");
-    text(rt, b"field 000001", b"000001\r\n");
-    text(rt, b"field 65535", b"65535\r\n");
-    text(rt, b"field 65536", b"65536\r\n");
-    text(rt, b"field in quotes", b"\"1\"\r\n");
-    text(rt, b"field in one quote", b"\"1\r\n");
-    text(rt, b"record with no line end", b"1");
-    text(rt, b"record with LF alone", b"1\n");
-    text(rt, b"empty text", b"");
+    text(rt, "field 00001", b"00001\r\n");
+    text(rt, "field 000001", b"000001\r\n");
+    text(rt, "field 65535", b"65535\r\n");
+    text(rt, "field 65536", b"65536\r\n");
+    text(rt, "field in quotes", b"\"1\"\r\n");
+    text(rt, "field in one quote", b"\"1\r\n");
+    text(rt, "record with no line end", b"1");
+    text(rt, "record with LF alone", b"1\n");
+    text(rt, "empty text", b"");
 }
 
 // Number 17 of the request for the meter.

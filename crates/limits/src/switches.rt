@@ -1,8 +1,9 @@
 // Starts, loads, arrivals and steps, with hand-made states for the last two refusals.
-use crate::report::{report, report_at, say};
+use crate::report::report;
 use crossbar::start::start;
 use crossbar::state::{Reply, Switch};
 use fabric::flow::{Crosspoint, Queue};
+use refusal::Refusal;
 
 // A start with one port, whose flow has every slot of a frame of six.
 fn one_port(depth: usize, store: &[u32]) -> Reply {
@@ -11,15 +12,19 @@ fn one_port(depth: usize, store: &[u32]) -> Reply {
 
 pub fn depth(rt: &impl Print, store: &[u32]) {
     let q = store.len();
-    report_at(rt, b"Q = ", q, one_port(q, store).verdict);
+    report(rt, format_args!("Q = {q}"), one_port(q, store).verdict);
 }
 
 pub fn places(rt: &impl Print, store: &[u32]) {
-    let started = one_port(2, store);
-    report_at(rt, b"N = 1, Q = 2, store of ", store.len(), started.verdict);
+    let count = store.len();
+    report(
+        rt,
+        format_args!("N = 1, Q = 2, store of {count}"),
+        one_port(2, store).verdict,
+    );
 }
 
-fn load(rt: &impl Print, what: &[u8], state: Switch, t: u32) -> Switch {
+fn load(rt: &impl Print, what: &str, state: Switch, t: u32) -> Switch {
     let loaded = state.load(1, t, &[1; 1]);
     report(rt, what, loaded.verdict);
     loaded.state
@@ -27,16 +32,19 @@ fn load(rt: &impl Print, what: &[u8], state: Switch, t: u32) -> Switch {
 
 pub fn loads(rt: &impl Print) {
     let fresh = one_port(1, &[0; 1]).state;
-    let waiting = load(rt, b"T = 6 loaded into a switch of T = 6", fresh, 6);
-    load(rt, b"T = 8 loaded into a switch of T = 6", fresh, 8);
-    load(rt, b"T = 6 loaded while a plan waits", waiting, 6);
+    let waiting = load(rt, "T = 6 loaded into a switch of T = 6", fresh, 6);
+    load(rt, "T = 8 loaded into a switch of T = 6", fresh, 8);
+    load(rt, "T = 6 loaded while a plan waits", waiting, 6);
 }
 
 pub fn output(rt: &impl Print, j: usize) {
     let mut store = [0; 4];
-    let started = start(2, 1, &[0; 4], 1, &store);
-    let arrived = started.state.arrive(&mut store, 0, j, 7);
-    report_at(rt, b"N = 2, output ", j, arrived.verdict);
+    let fresh = start(2, 1, &[0; 4], 1, &store).state;
+    report(
+        rt,
+        format_args!("N = 2, output {j}"),
+        fresh.arrive(&mut store, 0, j, 7).verdict,
+    );
 }
 
 // The reply to the last of some arrivals at a switch of one port.
@@ -48,29 +56,27 @@ fn fill(fresh: Reply, store: &mut [u32], count: usize) -> Reply {
     reply
 }
 
-fn arrival(rt: &impl Print, depth: usize, k: usize, reply: Reply) {
-    say(rt, b"Q = ", depth);
-    report_at(rt, b": arrival ", k, reply.verdict);
+fn arrival(rt: &impl Print, depth: usize, k: usize, verdict: Result<(), Refusal>) {
+    report(rt, format_args!("Q = {depth}: arrival {k}"), verdict);
 }
 
 // The arrivals that fill a queue, and one more.
 pub fn arrivals(rt: &impl Print, store: &mut [u32]) {
     let q = store.len();
     let full = fill(one_port(q, store), store, q);
-    let state = full.state;
-    arrival(rt, q, q, full);
-    let over = state.arrive(store, 0, 0, 7);
-    arrival(rt, q, q + 1, over);
-}
-
-fn step(rt: &impl Print, name: &[u8], value: usize, state: Switch) {
-    report_at(rt, name, value, state.step(&[7; 1]).verdict);
+    arrival(rt, q, q, full.verdict);
+    let over = full.state.arrive(store, 0, 0, 7);
+    arrival(rt, q, q + 1, over.verdict);
 }
 
 pub fn slot(rt: &impl Print, s: u32) {
     let mut state = one_port(1, &[7; 1]).state;
     state.slot = s;
-    step(rt, b"T = 6, slot ", s as usize, state);
+    report(
+        rt,
+        format_args!("T = 6, slot {s}"),
+        state.step(&[7; 1]).verdict,
+    );
 }
 
 // A step that moves a cell to a crosspoint which holds some.
@@ -81,5 +87,9 @@ pub fn crosspoint(rt: &impl Print, count: u8) {
         cells: [8; 2],
         count,
     };
-    step(rt, b"queue at 1, crosspoint at ", usize::from(count), state);
+    report(
+        rt,
+        format_args!("queue at 1, crosspoint at {count}"),
+        state.step(&[7; 1]).verdict,
+    );
 }

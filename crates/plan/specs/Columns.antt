@@ -1,5 +1,5 @@
 -- "Each column is added up when its turn comes, and that sum is proved to be the column's for every list N × N long." Acceptance
--- keeps no list of sums: it adds up a line (`line_sum`), compares the sum with T (`lines_fit`) and goes on to the next.
+-- keeps no list of sums: it adds up a line (`Lines::sum`), compares the sum with T (`Lines::fit`) and goes on to the next.
 use Rattle.std.specs.Prelude.{ℕ, ◌*◌, ◌%◌, ◌<◌, cond, List, ◌≡◌, eqb, length, get_or}
 use Rattle.plan.specs.Below.{sum_below}
 use Rattle.plan.specs.Lines.{column_sum, line_sum}

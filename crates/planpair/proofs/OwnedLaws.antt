@@ -1,4 +1,4 @@
--- What owning a plan tells of its array: it has its length, and so room for N × N rates.
+-- What owning a plan tells of its array: it has its length.
 use Prim.Native.Nat.{◌*◌, ◌≤◌}
 use mathlib.Core.List.{List}
 use mathlib.Core.Path.{◌≡◌}
@@ -20,9 +20,3 @@ module _ (p : Plan) (vs : List Val) (owned : Is (row the_type) p vs) where
   -- `owned` has a part for each field of the struct, and the rates are the third
   pub rates_full : length p.rates ≡ most_flows
   rates_full = good_length (e_int w16) most_flows p.rates _ owned.1.1.1.1.0
-
-  pub rates_cover : p.ports ≤ most_ports → p.ports * p.ports ≤ length p.rates
-  rates_cover few = omega (arith, rates_full, square_small p.ports few)
-
-  pub rates_square : p.ports ≤ most_ports → length (plan_rates p) ≡ p.ports * p.ports
-  rates_square few = length-take-le _ p.rates (rates_cover few)

@@ -74,6 +74,7 @@ pub struct CoverRecord {
     pub most: Stretch,
 }
 
+// Not a `From`: of u32 and Result neither is this crate's.
 pub fn verdict_number(verdict: Result<(), Refusal>) -> u32
     ensures { result ≡ verdict_number_of verdict }
 {
@@ -108,7 +109,7 @@ fn cell_of(answer: Answer) -> u32
     }
 }
 
-// Field by field: a processor need not foresee which kind comes.
+// Field by field: by one `match` for the whole record the compiler copies 34 KB more in a slot.
 impl From<Answer> for PortRecord {
     ghost from_gives = { λ answer r. r ≡ answer_record answer };
 
@@ -121,13 +122,14 @@ impl From<Answer> for PortRecord {
     }
 }
 
+// Place by place: by `map` of the array the compiler copies 36 KB more in a slot.
 #[tactic(auto, unfolding(crate::specs::Records::records_below))]
 fn port_records(answers: [Answer; MOST_PORTS]) -> [PortRecord; MOST_PORTS]
     ensures { result ≡ port_records answers }
 {
     let mut records = [PortRecord::from(Answer::Idle); MOST_PORTS];
-    for p in 0..MOST_PORTS {
-        records[p] = PortRecord::from(answers[p]);
+    for (p, record) in records.iter_mut().enumerate() {
+        *record = PortRecord::from(answers[p]);
     }
     records
 }

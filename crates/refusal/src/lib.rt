@@ -43,7 +43,8 @@ pub enum Refusal {
 }
 
 impl Refusal {
-    // The number of a refusal in the scope's table.
+    // The number of a refusal in the scope's table. By a match: of cases with numbers of their own (`= 1`), two that share one
+    // would not compile, where here it is the proof that fails.
     pub fn number(self) -> u8
         ensures { result ≡ number_of self }
     {

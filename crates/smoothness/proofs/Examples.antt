@@ -2,6 +2,7 @@
 use Prim.Native.Nat.{ℕ}
 use mathlib.Core.List.{List, [], ◌∷◌, ◌++◌}
 use mathlib.Core.Path.{◌≡◌, refl}
+use Rattle.std.specs.Prelude.{codes}
 use Rattle.plan.specs.Below.{list_below}
 use Rattle.plan.specs.Lines.{row_sum, column_sum}
 use Rattle.plan.specs.Range.{ports_in_range, frame_in_range}
@@ -23,17 +24,14 @@ use Rattle.smoothness.specs.Printout.{header_text, line_of, counts, flow_lines_o
 abbrev one_output : List ℕ
 one_output = 0x4c ∷ 0x53 ∷ 0x50 ∷ 0x01 ∷ 0x00 ∷ 0x01 ∷ 0x04 ∷ 0x00 ∷ 0x03 ∷ 0x00 ∷ []
 
--- 0 0 3 1 0 0 1 1
 abbrev in1 : List ℕ
-in1 = 48 ∷ 32 ∷ 48 ∷ 32 ∷ 51 ∷ 32 ∷ 49 ∷ 32 ∷ 48 ∷ 32 ∷ 48 ∷ 32 ∷ 49 ∷ 32 ∷ 49 ∷ 10 ∷ []
+in1 = codes "0 0 3 1 0 0 1 1\n"
 
--- 0 0 3 2 1 1 2 2
 abbrev in2 : List ℕ
-in2 = 48 ∷ 32 ∷ 48 ∷ 32 ∷ 51 ∷ 32 ∷ 50 ∷ 32 ∷ 49 ∷ 32 ∷ 49 ∷ 32 ∷ 50 ∷ 32 ∷ 50 ∷ 10 ∷ []
+in2 = codes "0 0 3 2 1 1 2 2\n"
 
--- 0 0 3 4 3 2 3 4
 abbrev in4 : List ℕ
-in4 = 48 ∷ 32 ∷ 48 ∷ 32 ∷ 51 ∷ 32 ∷ 52 ∷ 32 ∷ 51 ∷ 32 ∷ 50 ∷ 32 ∷ 51 ∷ 32 ∷ 52 ∷ 10 ∷ []
+in4 = codes "0 0 3 4 3 2 3 4\n"
 
 one_output_lem : printout_of one_output ≡ header_text ++ in1 ++ in2 ++ in4
 unfolding printout_of read_of verdict_of is_marked rates_of padded_to accept_of ports_in_range frame_in_range row_sum column_sum list_below head_lines_of three_frames_of record_from choose_of best_of better eligible rounded_up counts_after cleared_below flow_lines_of counts cover_of cover_verdict cover_at kept_to or_less or_more line_of text_below digits_of
@@ -43,35 +41,29 @@ one_output_lem = refl
 abbrev scope_file : List ℕ
 scope_file = 0x4c ∷ 0x53 ∷ 0x50 ∷ 0x01 ∷ 0x00 ∷ 0x02 ∷ 0x02 ∷ 0x00 ∷ 0x01 ∷ 0x00 ∷ 0x01 ∷ 0x00 ∷ 0x01 ∷ 0x00 ∷ 0x00 ∷ 0x00 ∷ []
 
--- 0 0 1 1 0 0 1 1
 abbrev out0in0_1 : List ℕ
-out0in0_1 = 48 ∷ 32 ∷ 48 ∷ 32 ∷ 49 ∷ 32 ∷ 49 ∷ 32 ∷ 48 ∷ 32 ∷ 48 ∷ 32 ∷ 49 ∷ 32 ∷ 49 ∷ 10 ∷ []
+out0in0_1 = codes "0 0 1 1 0 0 1 1\n"
 
--- 0 0 1 2 1 0 1 2
 abbrev out0in0_2 : List ℕ
-out0in0_2 = 48 ∷ 32 ∷ 48 ∷ 32 ∷ 49 ∷ 32 ∷ 50 ∷ 32 ∷ 49 ∷ 32 ∷ 48 ∷ 32 ∷ 49 ∷ 32 ∷ 50 ∷ 10 ∷ []
+out0in0_2 = codes "0 0 1 2 1 0 1 2\n"
 
--- 0 1 1 1 0 0 1 1
 abbrev out0in1_1 : List ℕ
-out0in1_1 = 48 ∷ 32 ∷ 49 ∷ 32 ∷ 49 ∷ 32 ∷ 49 ∷ 32 ∷ 48 ∷ 32 ∷ 48 ∷ 32 ∷ 49 ∷ 32 ∷ 49 ∷ 10 ∷ []
+out0in1_1 = codes "0 1 1 1 0 0 1 1\n"
 
--- 0 1 1 2 1 0 1 2
 abbrev out0in1_2 : List ℕ
-out0in1_2 = 48 ∷ 32 ∷ 49 ∷ 32 ∷ 49 ∷ 32 ∷ 50 ∷ 32 ∷ 49 ∷ 32 ∷ 48 ∷ 32 ∷ 49 ∷ 32 ∷ 50 ∷ 10 ∷ []
+out0in1_2 = codes "0 1 1 2 1 0 1 2\n"
 
--- 1 0 1 1 0 0 1 1
 abbrev out1in0_1 : List ℕ
-out1in0_1 = 49 ∷ 32 ∷ 48 ∷ 32 ∷ 49 ∷ 32 ∷ 49 ∷ 32 ∷ 48 ∷ 32 ∷ 48 ∷ 32 ∷ 49 ∷ 32 ∷ 49 ∷ 10 ∷ []
+out1in0_1 = codes "1 0 1 1 0 0 1 1\n"
 
--- 1 0 1 2 1 0 1 2
 abbrev out1in0_2 : List ℕ
-out1in0_2 = 49 ∷ 32 ∷ 48 ∷ 32 ∷ 49 ∷ 32 ∷ 50 ∷ 32 ∷ 49 ∷ 32 ∷ 48 ∷ 32 ∷ 49 ∷ 32 ∷ 50 ∷ 10 ∷ []
+out1in0_2 = codes "1 0 1 2 1 0 1 2\n"
 
 scope_file_lem : printout_of scope_file ≡ header_text ++ out0in0_1 ++ out0in0_2 ++ out0in1_1 ++ out0in1_2 ++ out1in0_1 ++ out1in0_2
 unfolding printout_of read_of verdict_of is_marked rates_of padded_to accept_of ports_in_range frame_in_range row_sum column_sum list_below head_lines_of three_frames_of record_from choose_of best_of better eligible rounded_up counts_after cleared_below flow_lines_of counts cover_of cover_verdict cover_at kept_to or_less or_more line_of text_below digits_of
 scope_file_lem = refl
 
 -- refused 15
-empty_file : printout_of [] ≡ 114 ∷ 101 ∷ 102 ∷ 117 ∷ 115 ∷ 101 ∷ 100 ∷ 32 ∷ 49 ∷ 53 ∷ 10 ∷ []
+empty_file : printout_of [] ≡ codes "refused 15\n"
 unfolding printout_of read_of verdict_of refusal_line_of digits_of
 empty_file = refl

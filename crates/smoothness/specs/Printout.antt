@@ -1,7 +1,7 @@
 -- The printout of a plan file: "for each flow with a rate above 0, the least and the most services of its head in l slots of
 -- three frames, for l = 1, T / 4, T / 2 and T (those of 1 or more, each once), beside the promised bounds." One space parts the
 -- fields and each line ends in LF. Of a file that is refused it is "refused", a space and the number.
-use Rattle.std.specs.Prelude.{ℕ, ◌+◌, ◌*◌, ◌/◌, Bool, cond, not, ◌&&◌, List, [], ◌∷◌, ◌++◌, ltb, eqb, get_or, replicate}
+use Rattle.std.specs.Prelude.{ℕ, ◌+◌, ◌*◌, ◌/◌, Bool, cond, not, ◌&&◌, List, [], ◌∷◌, ◌++◌, ltb, eqb, get_or, replicate, codes}
 use Rattle.refusal.specs.Chain.{if_accepted}
 use Rattle.plan.specs.Range.{most_ports}
 use Rattle.plan.specs.Below.{all_below}
@@ -18,12 +18,8 @@ use Rattle.console.specs.Text.{decimal_of, field_of}
 use Rattle.console.specs.TextBelow.{text_below}
 use Rattle.console.specs.Refused.{line_end, refusal_line_of}
 
--- "out in rate slots least promised most promised", LF
 abbrev pub header_text : List ℕ
-header_text =
-    111 ∷ 117 ∷ 116 ∷ 32 ∷ 105 ∷ 110 ∷ 32 ∷ 114 ∷ 97 ∷ 116 ∷ 101 ∷ 32 ∷ 115 ∷ 108 ∷ 111 ∷ 116 ∷ 115 ∷ 32
-    ∷ 108 ∷ 101 ∷ 97 ∷ 115 ∷ 116 ∷ 32 ∷ 112 ∷ 114 ∷ 111 ∷ 109 ∷ 105 ∷ 115 ∷ 101 ∷ 100 ∷ 32
-    ∷ 109 ∷ 111 ∷ 115 ∷ 116 ∷ 32 ∷ 112 ∷ 114 ∷ 111 ∷ 109 ∷ 105 ∷ 115 ∷ 101 ∷ 100 ∷ line_end
+header_text = codes "out in rate slots least promised most promised\n"
 
 -- the line of flow (i, j) with rate a, measured in l slots
 unfoldable pub line_of : ℕ → ℕ → ℕ → ℕ → ℕ → Measured → List ℕ

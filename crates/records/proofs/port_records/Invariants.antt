@@ -3,4 +3,4 @@ use Rattle.records.specs.Records.{records_below}
 use Rattle.records.proofs.port_records.Given as goal
 
 abbrev pub invariant-loop-p : goal.invariant-loop-p
-invariant-loop-p l = l.records ≡ records_below l.answers l.p
+invariant-loop-p l = l.record-items ≡ records_below l.answers l.p
