@@ -6,7 +6,7 @@ use plan::range::MOST_PORTS;
 use refusal::Refusal;
 
 // What stands for ports from N up is neither looked at nor changed. `waits` is 0 where no plan waits; every other number says
-// that one does.
+// that one does. The layout is that of include/gambyre.h: its numbers are plain, and no type holds their limits.
 #[repr(C)]
 #[derive(Clone, Copy)]
 pub struct Switch {

@@ -7,7 +7,7 @@ use crate::Fabric;
 use side::choices::Side;
 
 impl Fabric {
-    // The counts of the ports below n, as their slot leaves them.
+    // The counts of the ports below n, as their slot leaves them. By number, as ports_below has it.
     pub fn counted(mut self, boards: Side, heads: Side, n: usize) -> Fabric
         requires { n ≤ most_ports }
         ensures { result ≡ counted_of self boards.ports heads.ports n }
