@@ -100,7 +100,7 @@ impl Switch {
         requires { Judged self (length store.now) n valid fits }
         ensures { Steps self store.now result }
     {
-        // Made first: a copy that is made after the services costs 1,024 bytes more.
+        // Made first: where it is made after the services, the compiler copies the rates of both plans once more.
         let mut next = self;
         // Local copies are lent: with a part of the state lent, a slot copies 4,664 bytes more and takes 4 to 11 percent longer.
         let rates = self.running.rates;
