@@ -1,6 +1,8 @@
 // The deadlines of frames of 64 slots, which are read and not divided for: for rates a from 1 to 64, and services s from 1 to
 // a of each, s × 64 / a rounded up, in the order in which the program `deadlines` prints them.
-ghost use Rattle.multiplexer.specs.Deadlines.{TableRule};
+ghost use Rattle.std.specs.Prelude.{◌≡◌, ◌*◌, ◌≤◌};
+ghost use Rattle.multiplexer.specs.Choose.{rounded_up};
+ghost use Rattle.multiplexer.specs.Deadlines.{table_frame, TableRule};
 
 // How many there are: one for each service of each rate.
 pub const ENTRIES: usize = 2080;
@@ -93,10 +95,36 @@ const DEADLINES: [u8; ENTRIES] = [
     47, 48, 49, 50, 51, 52, 53, 54, 55, 56, 57, 58, 59, 60, 61, 62, 63, 64,
 ];
 
-// The table. The compiler builds it anew wherever it is asked for, so that one is had for as many choices as can share it
-// (docs/PERFORMANCE.md).
-pub fn deadline_table() -> [u8; ENTRIES]
-    ensures { TableRule result }
+// The table, and its rule at every entry.
+#[derive(Drop)]
+pub struct DeadlineTable {
+    entries: [u8; ENTRIES],
+    ghost rule: { TableRule entries },
+}
+
+impl DeadlineTable {
+    // The compiler builds the table anew wherever it is asked for, so that one is had for as many choices as can share it
+    // (docs/PERFORMANCE.md).
+    pub fn new() -> DeadlineTable
+        ensures { TableRule result.entries }
+    {
+        DeadlineTable { entries: DEADLINES }
+    }
+
+    // The entries alone.
+    pub fn as_slice(&self) -> &[u8]
+        ensures { TableRule result.now }
+    {
+        &self.entries
+    }
+}
+
+// The deadline of service number `service` of a flow with this rate, out of the table.
+pub(crate) fn read_deadline(table: &[u8], rate: u16, service: u16) -> u8
+    requires { TableRule table.now × (1 ≤ service) × (service ≤ rate) × (rate ≤ table_frame) }
+    ensures { result ≡ rounded_up (service * table_frame) rate }
 {
-    DEADLINES
+    let a = usize::from(rate);
+    // those of all smaller rates stand before it
+    table[(a * (a - 1) >> 1) + (usize::from(service) - 1)]
 }

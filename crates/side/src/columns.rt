@@ -12,8 +12,7 @@ fn transpose_row(rates: &[u16], n: usize, j: usize, array: &mut [u16; MOST_FLOWS
     ensures { array.new ≡ transposed_row rates.now n j array.old n }
 {
     for i in 0..n {
-        let k = flow_place(n, j, i);
-        array[k] = rates[flow_place(n, i, j)];
+        array[flow_place(n, j, i)] = rates[flow_place(n, i, j)];
     }
 }
 

@@ -9,4 +9,4 @@ unfolding transposed_row
 loop-i-init c = (omega arith, refl)
 
 pub loop-i-preserved : goal.loop-i-preserved
-loop-i-preserved c = (omega arith, transpose_row_step _ _ _ _ _ _ _ _ c.loop-i.invariant.1 c.flow_place-k.ensures.is c.flow_place.ensures.is)
+loop-i-preserved c = (omega arith, transpose_row_step _ _ _ _ _ _ _ _ c.loop-i.invariant.1 c.flow_place-in-loop-i.ensures.is c.flow_place.ensures.is)
