@@ -95,28 +95,19 @@ const DEADLINES: [u8; ENTRIES] = [
     47, 48, 49, 50, 51, 52, 53, 54, 55, 56, 57, 58, 59, 60, 61, 62, 63, 64,
 ];
 
-// The table, and its rule at every entry.
-#[derive(Drop)]
-pub struct DeadlineTable {
-    entries: [u8; ENTRIES],
-    ghost rule: { TableRule entries },
+// The table. The compiler builds it anew wherever it is asked for, so that one is had for as many choices as can share it
+// (docs/PERFORMANCE.md).
+pub fn deadline_table() -> [u8; ENTRIES]
+    ensures { TableRule result }
+{
+    DEADLINES
 }
 
-impl DeadlineTable {
-    // The compiler builds the table anew wherever it is asked for, so that one is had for as many choices as can share it
-    // (docs/PERFORMANCE.md).
-    pub fn new() -> DeadlineTable
-        ensures { TableRule result.entries }
-    {
-        DeadlineTable { entries: DEADLINES }
-    }
-
-    // The entries alone.
-    pub fn as_slice(&self) -> &[u8]
-        ensures { TableRule result.now }
-    {
-        &self.entries
-    }
+// A lent table, with its rule at every entry.
+#[derive(Clone, Copy)]
+pub struct DeadlineTable<'a> {
+    pub entries: &'a [u8],
+    pub ghost rule: { TableRule entries.now },
 }
 
 // The deadline of service number `service` of a flow with this rate, out of the table.

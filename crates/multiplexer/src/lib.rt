@@ -9,7 +9,7 @@ ghost use Rattle.multiplexer.specs.Candidate.{never, rank_of, Soonest, or_flow, 
 ghost use Rattle.multiplexer.specs.Deadlines.{table_frame, ReadIn};
 ghost use Rattle.multiplexer.specs.Serve.{served_with, serve_of};
 
-use crate::deadlines::{DeadlineTable, read_deadline};
+use crate::deadlines::{DeadlineTable, deadline_table, read_deadline};
 use plan::range::MOST_PORTS;
 
 pub mod deadlines;
@@ -154,8 +154,8 @@ impl Multiplexer {
         ensures { choice_of result ≡ choose_of rates.now self.served frame slot }
     {
         if frame == TABLE_FRAME {
-            let table = DeadlineTable::new();
-            return self.best(rates, frame, slot, table.as_slice());
+            let table = deadline_table();
+            return self.best(rates, frame, slot, &table);
         }
         self.best(rates, frame, slot, b"")
     }
@@ -220,11 +220,11 @@ impl Multiplexer {
     }
 
     // The same with the table of deadlines lent, which the ports of a side share.
-    pub fn serve_with(self, rates: &[u16], frame: u32, slot: u32, table: &DeadlineTable) -> Served
+    pub fn serve_with(self, rates: &[u16], frame: u32, slot: u32, table: DeadlineTable) -> Served
         ensures { result ≡ serve_of self rates.now frame slot }
     {
         self.after(
-            self.best(rates, frame, slot, table.as_slice()),
+            self.best(rates, frame, slot, table.entries),
             rates.len(),
             frame,
             slot,
