@@ -2,14 +2,14 @@
 -- in which no port acts.
 use Prim.Native.Nat.{ℕ, zero, suc, ◌+◌, ◌*◌, ◌<◌, ◌≤◌}
 use mathlib.Core.Path.{◌≡◌, refl, ap, sym, subst, ◌∙◌}
-use mathlib.Core.Bool.{Bool, true, false, not, cond, ◌&&◌}
-use mathlib.Core.Logic.{◌⊎◌, inl, inr}
+use mathlib.Core.Bool.{Bool, true, false, cond}
+use mathlib.Core.Logic.{◌⊎◌, inl, inr, ⊎_elim}
 use mathlib.Core.List.{List}
 use native.Mathlib.Omega.{arith}
 use lib.Dec.{eqb}
 use lib.ListN.{length, take}
 use lib.Seq.{length-take-le}
-use borrow.Author.Tests.{eq-eqb, ne_eqb, eqb-false, not-true}
+use borrow.Author.Tests.{eq-eqb, ne_eqb}
 use Rattle.std.specs.Prelude.{Option, Ok}
 use Rattle.refusal.specs.Verdict.{Verdict}
 use Rattle.plan.specs.Range.{most_ports, most_flows}
@@ -218,16 +218,9 @@ module _
               record { fit = f; rules = valid s f.passed; roomy = e; same = same }
           go false e = let none : m ≡ 0 = acting-is ∙ (rw e refl) in absurd (omega arith)
 
-      -- what the code tests before it makes a takeover
-      pub taking : (takes_over s && not (eqb m 0)) ≡ true → (takes_over s ≡ true) × (1 ≤ m)
-      taking e =
-          let both = and_true (takes_over s) (not (eqb m 0)) e in
-          let some = eqb-false m 0 (not-true _ both.1) in
-          (both.0, omega arith)
-
       -- a plan that takes over is that of a valid state
-      pub few_taken : (takes_over s && not (eqb m 0)) ≡ true → s.waiting.ports ≤ most_ports
-      few_taken e = let t = taking e in ((acts t.1).rules.waiting (takes_waiting s t.0)).few_ports
+      pub few_taken : takes_over s ≡ true → 1 ≤ m → s.waiting.ports ≤ most_ports
+      few_taken e l = ((acts l).rules.waiting (takes_waiting s e)).few_ports
 
       -- and so is a slot that goes on
       pub next_fits : 1 ≤ m → s.slot + 1 ≤ 4294967295
@@ -369,13 +362,10 @@ module _
               step_takes e l = rw (taken s e) at (accepted l)
 
               -- otherwise the plans stay
-              pub step_keeps : (takes_over s && not (eqb m 0)) ≡ false → answer s.running s.waiting s.waits ≡ step_of s store
-              step_keeps = go (takes_over s) refl (lt_or_le 0 m)
-                where
-                  go : (b : Bool) → takes_over s ≡ b → (0 < m) ⊎ (m ≤ 0) → (b && not (eqb m 0)) ≡ false → answer s.running s.waiting s.waits ≡ step_of s store
-                  go b e (inr h) none = refused (omega arith)
-                  go false e (inl h) none = rw (not_taken s e) at (accepted h)
-                  go true e (inl h) none =
-                      let w : true ≡ false = rw (ne_eqb m 0 (λ k. omega arith)) at none in
-                      let z : ◌≡◌ {A = ℕ} 0 1 = cc in
-                      absurd (omega arith)
+              pub step_keeps : (takes_over s ≡ false) ⊎ (m ≡ 0) → answer s.running s.waiting s.waits ≡ step_of s store
+              step_keeps (inr none) = refused none
+              step_keeps (inl e) =
+                  ⊎_elim
+                  (λ (h : 0 < m). rw (not_taken s e) at (accepted h))
+                  (λ (h : m ≤ 0). refused (omega arith))
+                  (lt_or_le 0 m)

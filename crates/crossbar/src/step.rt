@@ -125,7 +125,7 @@ impl Switch {
         let verdict = verdict_by(valid, fits, room);
         next.slot = next_slot(m, self.slot, t);
         next.fabric = after;
-        if takeover & (m != 0) {
+        if takeover && m != 0 {
             next.running = replaced(next.running, next.waiting);
             next.waiting = cleared(next.waiting);
             next.waits = 0;

@@ -1,10 +1,12 @@
-use mathlib.Core.Path.{refl, sym}
+use mathlib.Core.Path.{refl, sym, ◌∙◌}
+use mathlib.Core.Logic.{inl, inr}
 use native.Mathlib.Omega.{arith}
 use lib.Seq.{length-take-le}
 use Rattle.plan.proofs.LineLaws.{square_small}
 use Rattle.crossbar.proofs.OwnedLaws.{owned_sized}
-use Rattle.crossbar.proofs.StepLaws.{running_part, waiting_part, few_choose, boards_can, few_act, moves_can, heads_can, next_fits, taking, few_taken, step_takes, step_keeps}
+use Rattle.crossbar.proofs.StepLaws.{running_part, waiting_part, few_choose, boards_can, few_act, moves_can, heads_can, next_fits, few_taken, step_takes, step_keeps}
 use Rattle.crossbar.proofs.state.Switch.slot.Goals as goal
+use Rattle.crossbar.proofs.state.Switch.slot.Goals.{else-takeover-via-then-takeover+else-m-ne0, else-takeover-via-else-takeover}
 
 pub slice_bounds-running-end : goal.slice_bounds-running-end
 slice_bounds-running-end c = sym (running_part _ (owned_sized _ _ c.well_formed.0) _ (few_choose _ _ _ _ _ c.requires))
@@ -44,23 +46,26 @@ next_slot-requires c =
 pub replaced-next-requires : goal.replaced-next-requires
 replaced-next-requires c =
     let by_desk = rw c.takes_over-takeover.ensures at c.serve_all-boards.ensures in
-    few_taken _ _ (owned_sized _ _ c.well_formed.0) _ _ _ c.requires _ by_desk _ c.room_for_all-room.ensures _ c.acting-m.ensures (rw c.takes_over-takeover.ensures at c.if-takeover-m.true)
+    few_taken _ _ (owned_sized _ _ c.well_formed.0) _ _ _ c.requires _ by_desk _ c.room_for_all-room.ensures _ c.acting-m.ensures (sym c.takes_over-takeover.ensures ∙ c.if-takeover.true) (omega (arith, c.if-m-ne0.true))
 
 pub cleared-next-requires : goal.cleared-next-requires
 cleared-next-requires c =
     let by_desk = rw c.takes_over-takeover.ensures at c.serve_all-boards.ensures in
-    few_taken _ _ (owned_sized _ _ c.well_formed.0) _ _ _ c.requires _ by_desk _ c.room_for_all-room.ensures _ c.acting-m.ensures (rw c.takes_over-takeover.ensures at c.if-takeover-m.true)
+    few_taken _ _ (owned_sized _ _ c.well_formed.0) _ _ _ c.requires _ by_desk _ c.room_for_all-room.ensures _ c.acting-m.ensures (sym c.takes_over-takeover.ensures ∙ c.if-takeover.true) (omega (arith, c.if-m-ne0.true))
 
-pub returns-then-takeover-m : goal.returns-then-takeover-m
-returns-then-takeover-m c =
+pub returns-then-m-ne0 : goal.returns-then-m-ne0
+returns-then-m-ne0 c =
     let by_desk = rw c.takes_over-takeover.ensures at c.serve_all-boards.ensures in
-    let t = taking _ _ (owned_sized _ _ c.well_formed.0) _ _ _ c.requires _ by_desk _ c.room_for_all-room.ensures _ c.acting-m.ensures (rw c.takes_over-takeover.ensures at c.if-takeover-m.true) in
     rw (c.replaced-next.ensures, c.cleared-next.ensures)
     (step_takes _ _ (owned_sized _ _ c.well_formed.0) _ _ _ c.requires _ by_desk _ c.room_for_all-room.ensures _ c.acting-m.ensures _ _ refl (rw c.takes_over-takeover.ensures at c.columns_of.ensures) _ c.serve_all-heads.ensures
-    _ c.run.ensures _ c.next_slot.ensures _ c.verdict_by-verdict.ensures t.0 t.1)
+    _ c.run.ensures _ c.next_slot.ensures _ c.verdict_by-verdict.ensures (sym c.takes_over-takeover.ensures ∙ c.if-takeover.true) (omega (arith, c.if-m-ne0.true)))
 
-pub returns-else-takeover-m : goal.returns-else-takeover-m
-returns-else-takeover-m c =
+pub returns-else-takeover : goal.returns-else-takeover
+returns-else-takeover c =
     let by_desk = rw c.takes_over-takeover.ensures at c.serve_all-boards.ensures in
     step_keeps _ _ (owned_sized _ _ c.well_formed.0) _ _ _ c.requires _ by_desk _ c.room_for_all-room.ensures _ c.acting-m.ensures _ _ refl (rw c.takes_over-takeover.ensures at c.columns_of.ensures) _ c.serve_all-heads.ensures
-    _ c.run.ensures _ c.next_slot.ensures _ c.verdict_by-verdict.ensures (rw c.takes_over-takeover.ensures at c.if-takeover-m.false)
+    _ c.run.ensures _ c.next_slot.ensures _ c.verdict_by-verdict.ensures
+    (elim c.else-takeover.branch [
+      | else-takeover-via-then-takeover+else-m-ne0 w ↦ inr (omega (arith, w.if-m-ne0.false))
+      | else-takeover-via-else-takeover w ↦ inl (sym c.takes_over-takeover.ensures ∙ w.if-takeover.false)
+    ])
