@@ -99,6 +99,7 @@ fn rank(deadline: u64, rate: u16) -> u64
 
 impl Candidate {
     // The choice with one flow more to choose from; of equal ranks it keeps the lower number.
+    #[tactic(auto, using(crate::proofs::CandidateLaws::or_flow_stays, crate::proofs::CandidateLaws::or_flow_changes))]
     fn or_flow(self, flow: u16, deadline: u64, rate: u16) -> Candidate
         requires { deadline ≤ never }
         ensures { result ≡ or_flow self flow deadline rate }
