@@ -1,7 +1,7 @@
 -- The printout by what reader, start and step answer: each verdict decides how it goes on.
 use Prim.Native.Nat.{ℕ, suc, ◌+◌, ◌*◌, ◌-◌, ◌<◌, ◌≤◌}
 use mathlib.Core.List.{List, [], ◌++◌}
-use mathlib.Core.Path.{◌≡◌, refl, ap, sym, subst, ◌∙◌}
+use mathlib.Core.Path.{◌≡◌, refl, ap, ◌∙◌}
 use native.Mathlib.Numerals.{add-one}
 use native.Mathlib.Omega.{arith}
 use lib.ListN.{take, replicate}
@@ -12,7 +12,6 @@ use Rattle.std.specs.Prelude.{Ok, Err}
 use Rattle.plan.specs.Range.{most_ports}
 use Rattle.plan.specs.declared.Plan.{Plan}
 use Rattle.planfile.specs.Read.{read_of}
-use Rattle.planfile.specs.declared.Reading.{Reading}
 use Rattle.planfile.proofs.CutLaws.{read_cut}
 use Rattle.planfile.proofs.ReadLaws.{accepted_plan}
 use Rattle.planpair.specs.Rates.{plan_rates}
@@ -59,14 +58,17 @@ pub by_start : (plan : Plan) (store : List ℕ) (r : Reply) → store ≡ replic
 unfolding frame_printout_of
 by_start plan store r zeros is = decided r.verdict _ _ _ (rw (is, zeros) refl)
 
-pub by_reading : (file : List ℕ) (r : Reading) → r ≡ read_of file
-    → Decided r.verdict (printout_of file) (frame_printout_of r.plan) (refusal_line_of r.verdict)
+pub by_plan : (file : List ℕ) (plan : Plan) → read_of file ≡ Ok plan → printout_of file ≡ frame_printout_of plan
 unfolding printout_of
-by_reading file r is = decided r.verdict _ _ _ (rw is refl)
+by_plan file plan e = rw e refl
+
+pub by_refusal : (file : List ℕ) (r : Refusal) → read_of file ≡ Err r → printout_of file ≡ refusal_line_of (Err r)
+unfolding printout_of
+by_refusal file r e = rw e refl
 
 -- an accepted file has a plan that the program's arrays have room for
-pub few_ports : (file : List ℕ) (r : Reading) → r ≡ read_of file → r.verdict ≡ Ok tt → r.plan.ports ≤ most_ports
-few_ports file r is = subst (λ (s : Reading). s.verdict ≡ Ok tt → s.plan.ports ≤ most_ports) (sym is) (λ e. (accepted_plan file e).is_plan.few_ports)
+pub few_ports : (file : List ℕ) (plan : Plan) → read_of file ≡ Ok plan → plan.ports ≤ most_ports
+few_ports file plan e = (accepted_plan file plan e).is_plan.few_ports
 
 -- what the program reads of a file is enough
 pub printout_cut : (file : List ℕ) → printout_of (take most_input file) ≡ printout_of file

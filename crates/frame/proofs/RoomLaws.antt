@@ -1,8 +1,11 @@
 -- How long a printout can be.
 use Prim.Native.Nat.{ℕ, zero, suc, ◌+◌, ◌*◌, ◌<◌, ◌≤◌}
 use mathlib.Core.List.{List, ◌++◌}
+use mathlib.Core.Path.{◌≡◌, refl}
 use native.Mathlib.Omega.{arith}
 use lib.ListN.{length, replicate, length-append}
+use Rattle.std.specs.Prelude.{Result, Ok, Err}
+use Rattle.refusal.specs.declared.Refusal.{Refusal}
 use Rattle.plan.specs.Range.{most_ports, most_slots}
 use Rattle.plan.specs.declared.Plan.{Plan}
 use Rattle.planfile.specs.Read.{read_of}
@@ -17,7 +20,7 @@ use Rattle.crossbar.specs.Step.{step_of}
 use Rattle.crossbar.specs.declared.state.Switch.{Switch}
 use Rattle.crossbar.proofs.AnswerLaws.{step_moves_name, step_sends_name}
 use Rattle.console.specs.Text.{decimal_of}
-use Rattle.frame.specs.Printout.{input_name, output_name, names_of, header_of, choice_of, side_choices_of, slot_line_of, slot_lines_of, frame_printout_of, printout_of, header_room, slot_line_room, printout_room}
+use Rattle.frame.specs.Printout.{input_name, output_name, names_of, header_of, choice_of, side_choices_of, slot_line_of, slot_lines_of, frame_printout_of, printed_of, printout_of, header_room, slot_line_room, printout_room}
 use Rattle.console.proofs.DigitLaws.{decimal_short}
 use Rattle.console.proofs.TextLaws.{refusal_short, either_short}
 use Rattle.console.proofs.TextBelowLaws.{below_short}
@@ -75,10 +78,10 @@ frame_short plan few l =
     (λ _. simp length-append (omega (arith, header_short n few, lines_short r.state store n 0 plan.frame few (omega arith))))
     (omega (arith, refusal_short r.verdict))
 
+printed_short : (file : List ℕ) (r : Result Plan Refusal) → read_of file ≡ r → length (printed_of r) ≤ printout_room
+printed_short file (Ok plan) e = let p = (accepted_plan file plan e).is_plan in frame_short plan p.few_ports p.few_slots
+printed_short file (Err why) e = omega (arith, refusal_short (Err why))
+
 pub printout_short : (file : List ℕ) → length (printout_of file) ≤ printout_room
 unfolding printout_of
-printout_short file =
-    let r = read_of file in
-    either_short printout_room r.verdict _ _
-    (λ e. let p = (accepted_plan file e).is_plan in frame_short r.plan p.few_ports p.few_slots)
-    (omega (arith, refusal_short r.verdict))
+printout_short file = printed_short file (read_of file) refl

@@ -2,8 +2,9 @@
 -- then a line a slot with the slot, the output chosen by each input, the input chosen by each output, "-" for idle. The
 -- header names the ports below N as shown; one space parts the fields and each line ends in LF. The program stops at the
 -- first refusal and prints "refused", a space and its number."
-use Rattle.std.specs.Prelude.{ℕ, zero, suc, ◌+◌, ◌*◌, List, [], ◌++◌, replicate, codes}
+use Rattle.std.specs.Prelude.{ℕ, zero, suc, ◌+◌, ◌*◌, List, [], ◌++◌, replicate, codes, Result, Ok, Err}
 use Rattle.refusal.specs.Chain.{if_accepted}
+use Rattle.refusal.specs.declared.Refusal.{Refusal}
 use Rattle.plan.specs.Range.{most_ports, most_slots}
 use Rattle.plan.specs.declared.Plan.{Plan}
 use Rattle.planfile.specs.Read.{read_of}
@@ -68,11 +69,14 @@ frame_printout_of plan =
     (header_of n ++ slot_lines_of started.state store n 0 plan.frame)
     (refusal_line_of started.verdict)
 
+-- what the program prints of a plan, or of the refusal of its file
+abbrev pub printed_of : Result Plan Refusal → List ℕ
+printed_of (Ok plan) = frame_printout_of plan
+printed_of (Err why) = refusal_line_of (Err why)
+
 -- what the program prints of the file with these bytes
 unfoldable pub printout_of : List ℕ → List ℕ
-printout_of file =
-    let reading = read_of file in
-    if_accepted reading.verdict (frame_printout_of reading.plan) (refusal_line_of reading.verdict)
+printout_of file = printed_of (read_of file)
 
 -- Room for every printout, by proofs/RoomLaws.antt: a port has at most two digits, and a slot four.
 -- "slot", the names of inputs and outputs, LF

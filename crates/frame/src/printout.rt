@@ -56,13 +56,13 @@ pub fn printout(file: &[u8]) -> Text
     ensures { result.bytes ≡ printout_of file.now }
 {
     let mut out = Text::new();
-    let reading = read(file);
-    let verdict = reading.verdict;
-    let Ok(()) = verdict else {
-        refusal_line(&mut out, verdict);
-        return out;
+    let plan = match read(file) {
+        Ok(plan) => plan,
+        Err(refusal) => {
+            refusal_line(&mut out, Err(refusal));
+            return out;
+        }
     };
-    let plan = reading.plan;
     frame_printout(&mut out, plan);
     out
 }

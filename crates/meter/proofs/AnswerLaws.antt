@@ -95,6 +95,11 @@ module _ (recorded : List ℕ) (flow l : ℕ) where
   pub cover_only : (r : Result Measured Refusal) → Covers recorded flow l r → r ≡ cover_of recorded flow l
   cover_only r is = only_under (cover_verdict (length recorded) l) r (cover_of recorded flow l) is cover_is
 
+  -- a record in range with l slots or more is measured
+  pub covers_accepted : l ≤ length recorded → length recorded ≤ most_record → (r : Result Measured Refusal) → Covers recorded flow l r → r ≡ Ok (measured_of recorded flow l)
+  unfolding cover_of
+  covers_accepted h short r is = cover_only r is ∙ rw (record_accepted (length recorded) l h short) refl
+
   pub one_answer : OneAnswer (Covers recorded flow l)
   one_answer = record { answer = cover_of recorded flow l; is = cover_is; only = cover_only }
 

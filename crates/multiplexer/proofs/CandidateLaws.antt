@@ -11,22 +11,24 @@ use borrow.Author.Tests.{ltb-true, ltb-false, lt-ltb, le-ltb}
 use Rattle.std.specs.Prelude.{Option, Some, None}
 use Rattle.multiplexer.specs.Choose.{eligible, deadline, rate_at, eligible_at, deadline_at, goes_before_choice, better}
 use Rattle.multiplexer.specs.Candidate.{never, most_rate, rank_of, Soonest, or_flow}
-use Rattle.multiplexer.proofs.RoundLaws.{quotient_rounded}
+use Rattle.multiplexer.proofs.RoundLaws.{quotient_rounded, deadline_small}
 use Rattle.multiplexer.proofs.RankLaws.{rank_tells, rank_eligible, rank_never}
 use Rattle.multiplexer.proofs.NumberLaws.{number_of}
 use Rattle.multiplexer.proofs.ChoiceLaws.{is_eligible, ineligible}
 use Rattle.multiplexer.specs.declared.Candidate.{Candidate}
 
 -- what the tests of a flow make of it
-module _ (a k T t : ℕ) (told_apart : deadline a k T < never) (fits : a ≤ most_rate) where
+module _ (a k T t : ℕ) (narrow : a < 65536) (short : k < 65536) (brief : T < 4294967296) where
   pub not_soon : (a ≡ 0) ⊎ (t * a < k * T) → Soonest a k T t never
-  not_soon h = record { is = rw (ineligible a k T t h) refl; told_apart = told_apart; fits = fits }
+  not_soon h = record { is = rw (ineligible a k T t h) refl; told_apart = deadline_small a k T narrow short brief; fits = omega arith }
 
   pub soon : 0 < a → k * T ≤ t * a → (r : ℕ) → r ≡ deadline a k T → Soonest a k T t r
-  soon pos may r e = record { is = e ∙ (rw (is_eligible a k T t pos may) refl); told_apart = told_apart; fits = fits }
+  soon pos may r e = record { is = e ∙ (rw (is_eligible a k T t pos may) refl); told_apart = deadline_small a k T narrow short brief; fits = omega arith }
 
-  pub some_time : 0 < a → k * T ≤ t * a → (y r : ℕ) → y ≡ (k + 1) * T + (a - 1) → r ≡ y / a → Soonest a k T t r
-  some_time pos may y r e q = soon pos may r (q ∙ quotient_rounded ((k + 1) * T) y a e)
+  pub some_time : 0 < a → k * T ≤ t * a → (y d r : ℕ) → y ≡ k * T + T + (d - 1) → d ≡ a → r ≡ y / d → Soonest a k T t r
+  some_time pos may y d r due by q =
+      let after : y ≡ (k + 1) * T + (a - 1) = omega (arith, due, by) in
+      soon pos may r (q ∙ rw by (quotient_rounded ((k + 1) * T) y a after))
 
 pub soonest_small : (a k T t r : ℕ) → Soonest a k T t r → r ≤ never
 soonest_small a k T t r s = go (eligible a k T t) s.is

@@ -1,6 +1,8 @@
 // The deadlines of frames of 64 slots, which are read and not divided for: for rates a from 1 to 64, and services s from 1 to
 // a of each, s × 64 / a rounded up, in the order in which the program `deadlines` prints them.
-ghost use Rattle.multiplexer.specs.Deadlines.{TableRule};
+ghost use Rattle.std.specs.Prelude.{◌≡◌, ◌*◌, ◌≤◌};
+ghost use Rattle.multiplexer.specs.Choose.{rounded_up};
+ghost use Rattle.multiplexer.specs.Deadlines.{table_frame, TableRule};
 
 // How many there are: one for each service of each rate.
 pub const ENTRIES: usize = 2080;
@@ -99,4 +101,21 @@ pub fn deadline_table() -> [u8; ENTRIES]
     ensures { TableRule result }
 {
     DEADLINES
+}
+
+// A lent table, with its rule at every entry.
+#[derive(Clone, Copy)]
+pub struct DeadlineTable<'a> {
+    pub entries: &'a [u8],
+    pub ghost rule: { TableRule entries.now },
+}
+
+// The deadline of service number `service` of a flow with this rate, out of the table.
+pub(crate) fn read_deadline(table: &[u8], rate: u16, service: u16) -> u8
+    requires { TableRule table.now × (1 ≤ service) × (service ≤ rate) × (rate ≤ table_frame) }
+    ensures { result ≡ rounded_up (service * table_frame) rate }
+{
+    let a = usize::from(rate);
+    // those of all smaller rates stand before it
+    table[(a * (a - 1) >> 1) + (usize::from(service) - 1)]
 }

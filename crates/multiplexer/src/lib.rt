@@ -3,13 +3,13 @@
 
 ghost use Rattle.std.specs.Prelude.{◌≡◌, cond, ◌+◌, ◌*◌, ◌<◌, ◌≤◌, min, eqb};
 ghost use Rattle.plan.specs.Range.{most_ports};
-ghost use Rattle.multiplexer.specs.Choose.{rounded_up, choose_of};
+ghost use Rattle.multiplexer.specs.Choose.{choose_of};
 ghost use Rattle.multiplexer.specs.Count.{one_more, count_of, end_frame_of};
 ghost use Rattle.multiplexer.specs.Candidate.{never, rank_of, Soonest, or_flow, choice_of};
-ghost use Rattle.multiplexer.specs.Deadlines.{table_frame, TableRule, ReadIn};
+ghost use Rattle.multiplexer.specs.Deadlines.{table_frame, ReadIn};
 ghost use Rattle.multiplexer.specs.Serve.{served_with, serve_of};
 
-use crate::deadlines::deadline_table;
+use crate::deadlines::{DeadlineTable, deadline_table, read_deadline};
 use plan::range::MOST_PORTS;
 
 pub mod deadlines;
@@ -18,12 +18,8 @@ mod valid;
 // How many slots the frames have that there is a table of deadlines for, and its highest rate.
 pub const TABLE_FRAME: u32 = 64;
 
-const MOST_COUNT: u16 = 65535;
-
-// In place of a flow's number: none.
+// In place of a flow's number: none. With an Option from `best` to `after` a slot of 16 boards takes 13 percent longer.
 const NO_FLOW: u16 = MOST_PORTS as u16;
-
-const MOST_RATE: u16 = 65535;
 
 // Above every deadline that counts of 16 and a frame of 32 bits give: 48 bits, so that a rank has 64.
 const NEVER: u64 = 281474976710655;
@@ -53,33 +49,17 @@ struct Candidate {
     rank: u64,
 }
 
-// How many of n rates count.
-fn flows(n: usize) -> usize
-    ensures { result ≡ min n most_ports }
-{
-    if n < MOST_PORTS { n } else { MOST_PORTS }
-}
-
-// A rate to divide by.
-fn at_least_one(a: u64) -> u64
-    ensures { (0 < result) × (result ≤ a + 1) × (0 < a → result ≡ a) }
-{
-    if a == 0 {
-        return 1;
-    }
-    a
-}
-
 // The flow's deadline, or NEVER where it is not eligible, by the formula. The division comes before the tests, so that no jump
 // depends on which flows are eligible: a processor can't foresee that.
 fn soonest_divided(rate: u16, served: u16, frame: u32, slot: u32) -> u64
     ensures { Soonest rate served frame slot result }
 {
-    let a = rate as u64;
-    let done = (served as u64) * (frame as u64);
-    let d = at_least_one(a);
-    let deadline = (done + (frame as u64) + (d - 1)) / d;
-    if (slot as u64) * a < done {
+    let a = u64::from(rate);
+    let done = u64::from(served) * u64::from(frame);
+    // by hand: with the library's `div_ceil` a slot of 16 boards takes 3 percent longer, and a choice of 16 flows 8
+    let d = a.max(1);
+    let deadline = (done + u64::from(frame) + (d - 1)) / d;
+    if u64::from(slot) * a < done {
         return NEVER;
     }
     if rate == 0 {
@@ -88,31 +68,22 @@ fn soonest_divided(rate: u16, served: u16, frame: u32, slot: u32) -> u64
     deadline
 }
 
-// The deadline of service number `service` of a flow with this rate, out of the table.
-fn read_deadline(table: &[u8], rate: u16, service: u16) -> u8
-    requires { TableRule table.now × (1 ≤ service) × (service ≤ rate) × (rate ≤ table_frame) }
-    ensures { result ≡ rounded_up (service * table_frame) rate }
-{
-    let a = rate as usize;
-    // the table has those of all smaller rates before it
-    table[(a * (a - 1) >> 1) + (service as usize - 1)]
-}
-
 // The flow's deadline, or NEVER where it is not eligible: in a frame of 64 slots by the table, otherwise by the formula. Before
 // slot 64 a flow that has had all its services, or has rate 0, is not eligible, and the table has nothing of it.
 fn soonest(rate: u16, served: u16, frame: u32, slot: u32, table: &[u8]) -> u64
     requires { ReadIn frame table.now }
     ensures { Soonest rate served frame slot result }
 {
-    if (frame == TABLE_FRAME) & (slot < TABLE_FRAME) & (rate as u32 <= TABLE_FRAME) {
+    if frame == TABLE_FRAME && slot < TABLE_FRAME && u32::from(rate) <= TABLE_FRAME {
         if rate <= served {
             return NEVER;
         }
-        let deadline = read_deadline(table, rate, served + 1);
-        if slot * (rate as u32) < (served as u32) * TABLE_FRAME {
+        // read, and widened, before the test, so that no jump depends on who is eligible
+        let deadline = u64::from(read_deadline(table, rate, served + 1));
+        if slot * u32::from(rate) < u32::from(served) * TABLE_FRAME {
             return NEVER;
         }
-        return deadline as u64;
+        return deadline;
     }
     soonest_divided(rate, served, frame, slot)
 }
@@ -123,11 +94,12 @@ fn rank(deadline: u64, rate: u16) -> u64
     requires { deadline ≤ never }
     ensures { result ≡ rank_of deadline rate }
 {
-    deadline * RATES + ((MOST_RATE - rate) as u64)
+    deadline * RATES + u64::from(u16::MAX - rate)
 }
 
 impl Candidate {
     // The choice with one flow more to choose from; of equal ranks it keeps the lower number.
+    #[tactic(auto, using(crate::proofs::CandidateLaws::or_flow_stays, crate::proofs::CandidateLaws::or_flow_changes))]
     fn or_flow(self, flow: u16, deadline: u64, rate: u16) -> Candidate
         requires { deadline ≤ never }
         ensures { result ≡ or_flow self flow deadline rate }
@@ -152,36 +124,33 @@ fn choice_of(flow: u16) -> Option<usize>
 fn one_more(count: u16, g: u16, flow: u16) -> u16
     ensures { result ≡ cond (eqb g flow) (one_more count) count }
 {
-    if g != flow {
-        return count;
+    if g == flow {
+        return count.saturating_add(1);
     }
-    if MOST_COUNT <= count {
-        return count;
-    }
-    count + 1
+    count
 }
 
 impl Multiplexer {
-    // The number of the flow that `choose` chooses, or NO_FLOW, with the table of deadlines lent.
+    // The number of the flow that `choose` chooses, or NO_FLOW, with the table lent as a list, which may be any in frames that
+    // have none: lent as an Option, it makes a slot of 16 boards at T = 64 some 9 percent slower (docs/PERFORMANCE.md).
     fn best(self, rates: &[u16], frame: u32, slot: u32, table: &[u8]) -> u16
         requires { ReadIn frame table.now }
         ensures { choice_of result ≡ choose_of rates.now self.served frame slot }
     {
-        let served = self.served;
-        let n = flows(rates.len());
+        let counted = &rates[..rates.len().min(MOST_PORTS)];
         // as a flow with the highest rate that is not eligible: none of those goes before it
         let mut best = Candidate {
             flow: NO_FLOW,
-            rank: rank(NEVER, MOST_RATE),
+            rank: rank(NEVER, u16::MAX),
         };
-        for f in 0..n {
-            let rate = rates[f];
-            best = best.or_flow(f as u16, soonest(rate, served[f], frame, slot, table), rate);
+        for (f, rate) in counted.iter().enumerate() {
+            let deadline = soonest(*rate, self.served[f], frame, slot, table);
+            best = best.or_flow(f as u16, deadline, *rate);
         }
         best.flow
     }
 
-    // The same without a table, which is made where the frame has one.
+    // The same, with a table that is made where the frame has one.
     fn chosen(self, rates: &[u16], frame: u32, slot: u32) -> u16
         ensures { choice_of result ≡ choose_of rates.now self.served frame slot }
     {
@@ -205,25 +174,21 @@ impl Multiplexer {
     fn counted(self, flow: u16) -> Multiplexer
         ensures { result ≡ count_of self (choice_of flow) }
     {
-        let served = self.served;
-        let mut after = [0u16; MOST_PORTS];
-        for g in 0..MOST_PORTS {
-            after[g] = one_more(served[g], g as u16, flow);
+        let mut served = [0; MOST_PORTS];
+        for (g, count) in self.served.iter().enumerate() {
+            served[g] = one_more(*count, g as u16, flow);
         }
-        Multiplexer { served: after }
+        Multiplexer { served }
     }
 
     // One service more for the chosen flow. A count of 65,535 stays, and a number past 15 changes nothing.
     pub fn count(self, choice: Option<usize>) -> Multiplexer
         ensures { result ≡ count_of self choice }
     {
-        let Some(f) = choice else {
-            return self;
-        };
-        if MOST_PORTS <= f {
-            return self;
+        match choice {
+            Some(f) if f < MOST_PORTS => self.counted(f as u16),
+            _ => self,
         }
-        self.counted(f as u16)
     }
 
     // The end of a frame of n flows: their counts return to 0, and those of other numbers stay.
@@ -231,9 +196,7 @@ impl Multiplexer {
         ensures { result ≡ end_frame_of self n }
     {
         let mut served = self.served;
-        for f in 0..flows(n) {
-            served[f] = 0;
-        }
+        served[..n.min(MOST_PORTS)].fill(0);
         Multiplexer { served }
     }
 
@@ -245,16 +208,9 @@ impl Multiplexer {
         // counted before the choice is made of it, so that no jump depends on whether the port idles
         let counted = self.counted(flow);
         let choice = choice_of(flow);
-        if slot as u64 + 1 == frame as u64 {
-            return Served {
-                port: counted.end_frame(n),
-                choice,
-            };
-        }
-        Served {
-            port: counted,
-            choice,
-        }
+        let ends = u64::from(slot) + 1 == u64::from(frame);
+        let port = if ends { counted.end_frame(n) } else { counted };
+        Served { port, choice }
     }
 
     // One slot of the port: it chooses, counts the service and, in the last slot of a frame, goes back to 0.
@@ -265,12 +221,11 @@ impl Multiplexer {
     }
 
     // The same with the table of deadlines lent, which the ports of a side share.
-    pub fn serve_with(self, rates: &[u16], frame: u32, slot: u32, table: &[u8]) -> Served
-        requires { TableRule table.now }
+    pub fn serve_with(self, rates: &[u16], frame: u32, slot: u32, table: DeadlineTable) -> Served
         ensures { result ≡ serve_of self rates.now frame slot }
     {
         self.after(
-            self.best(rates, frame, slot, table),
+            self.best(rates, frame, slot, table.entries),
             rates.len(),
             frame,
             slot,

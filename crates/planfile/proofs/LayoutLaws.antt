@@ -1,5 +1,5 @@
 -- The rates of a file, and an array that holds a list: filled place by place, and 0 past it.
-use Prim.Native.Nat.{ℕ, zero, suc, ◌+◌, ◌-◌, ◌<◌, ◌≤◌}
+use Prim.Native.Nat.{ℕ, zero, suc, ◌+◌, ◌-◌, ◌<◌, ◌≤◌, ◌*◌}
 use mathlib.Core.Path.{◌≡◌, refl, ap, ◌∙◌}
 use mathlib.Core.List.{List, [], ◌∷◌, ◌++◌, append_assoc}
 use mathlib.Core.Logic.{⊎_elim}
@@ -8,8 +8,9 @@ use native.Mathlib.Omega.{arith}
 use Rattle.std.proofs.lemmas.List.{take-replicate, drop-replicate}
 use lib.ListN.{length, get_or, set, take, drop, replicate, length-append, length-replicate, get_or-replicate, get_or-eq_default}
 use lib.Seq.{take_at, set_at, get_or-append-add}
-use Rattle.plan.specs.Range.{most_flows}
+use Rattle.plan.specs.Range.{most_ports, most_flows}
 use Rattle.plan.proofs.BelowLaws.{lt_or_le}
+use Rattle.plan.proofs.LineLaws.{square_small}
 use Rattle.planfile.specs.Layout.{rates_of, padded_to, padded}
 
 pub rates_length : (file : List ℕ) (count : ℕ) → length (rates_of file count) ≡ count
@@ -61,3 +62,7 @@ padded_past rates p h =
     let e : p ≡ length rates + (p - length rates) = omega arith in
     let left = most_flows - length rates in
     ap (λ (q : ℕ). get_or (padded rates) q 0) e ∙ get_or-append-add rates (replicate left 0) (p - length rates) 0 ∙ zeros left (p - length rates)
+
+-- the first places of an array of zeros, for the flows of n ports
+pub zeros_taken : (n : ℕ) → n ≤ most_ports → take (n * n) (replicate {A = ℕ} most_flows 0) ≡ replicate (n * n) 0
+zeros_taken n few = take-replicate {X = ℕ} (n * n) most_flows 0 (square_small n few)

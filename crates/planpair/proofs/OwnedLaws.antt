@@ -1,20 +1,15 @@
 -- What owning a plan tells of its array: it has its length.
-use Prim.Native.Nat.{◌*◌, ◌≤◌}
 use mathlib.Core.List.{List}
 use mathlib.Core.Path.{◌≡◌}
-use native.Mathlib.Omega.{arith}
 use lib.ListN.{length}
-use lib.Seq.{length-take-le}
 use mir.Syntax.{w16}
 use mir.Val.{Val}
 use denote.Laws.{Is}
 use denote.Struct.Declared.{row}
 use borrow.Kind.Array.{e_int, good_length}
-use Rattle.plan.specs.Range.{most_ports, most_flows}
+use Rattle.plan.specs.Range.{most_flows}
 use Rattle.plan.specs.declared.Plan.{Plan}
 use Rattle.plan.specs.contracts.Plan.{the_type}
-use Rattle.plan.proofs.LineLaws.{square_small}
-use Rattle.planpair.specs.Rates.{plan_rates}
 
 module _ (p : Plan) (vs : List Val) (owned : Is (row the_type) p vs) where
   -- `owned` has a part for each field of the struct, and the rates are the third

@@ -1,14 +1,12 @@
 -- The scope's plan from a text, refused texts, and arguments, computed by the definitions.
 use mathlib.Core.List.{[], ◌∷◌}
 use mathlib.Core.Path.{◌≡◌, refl}
-use lib.ListN.{take}
 use Rattle.refusal.specs.declared.Refusal.TheVariants.{PortsOutOfRange, FrameOutOfRange, NotPlanText}
 use Rattle.std.specs.Prelude.{Ok, Err}
 use Rattle.plan.specs.Lines.{row_sum, column_sum}
 use Rattle.plan.specs.Range.{ports_in_range, frame_in_range}
 use Rattle.plan.specs.Accept.{accept_of}
-use Rattle.planfile.specs.Layout.{padded_to}
-use Rattle.planfile.specs.Write.{head_of, rate_bytes, file_of, writing_of}
+use Rattle.planfile.specs.Write.{head_of, rate_bytes, file_of}
 use Rattle.plantext.specs.Bytes.{is_digit}
 use Rattle.plantext.specs.Values.{skip, digits_from, number, field, series, ends, values_of}
 use Rattle.plantext.specs.Read.{verdict_of, read_text_of}
@@ -18,18 +16,17 @@ use Rattle.sheet.specs.Argument.{largest_number, number_from, argument_of}
 use Rattle.sheet.specs.Sheet.{sheet_of}
 
 -- "4C 53 50 01 00 02 02 00 01 00 01 00 01 00 00 00 (hexadecimal)"
-scope_plan : let file = sheet_of 2 2 (ascii "1,1\r\n1,0\r\n") in (file.verdict ≡ Ok tt)
-    × (take file.length file.bytes ≡ 0x4c ∷ 0x53 ∷ 0x50 ∷ 0x01 ∷ 0x00 ∷ 0x02 ∷ 0x02 ∷ 0x00 ∷ 0x01 ∷ 0x00 ∷ 0x01 ∷ 0x00 ∷ 0x01 ∷ 0x00 ∷ 0x00 ∷ 0x00 ∷ [])
-unfolding sheet_of read_text_of verdict_of skip digits_from number field series ends values_of is_digit ports_in_range frame_in_range accept_of row_sum column_sum writing_of file_of head_of rate_bytes padded_to
-scope_plan = (refl, refl)
+scope_plan : sheet_of 2 2 (ascii "1,1\r\n1,0\r\n")
+    ≡ Ok (record { items = 0x4c ∷ 0x53 ∷ 0x50 ∷ 0x01 ∷ 0x00 ∷ 0x02 ∷ 0x02 ∷ 0x00 ∷ 0x01 ∷ 0x00 ∷ 0x01 ∷ 0x00 ∷ 0x01 ∷ 0x00 ∷ 0x00 ∷ 0x00 ∷ [] })
+unfolding sheet_of read_text_of verdict_of skip digits_from number field series ends values_of is_digit ports_in_range frame_in_range accept_of row_sum column_sum file_of head_of rate_bytes
+scope_plan = refl
 
 refused :
-    ((sheet_of 17 2 []).verdict ≡ Err PortsOutOfRange)
-    × ((sheet_of 2 0 []).verdict ≡ Err FrameOutOfRange)
-    × ((sheet_of 2 2 (ascii "1,1\n1,0\n")).verdict ≡ Err NotPlanText)
-    × ((sheet_of 2 2 (ascii "1,1\n1,0\n")).length ≡ 0)
-unfolding sheet_of read_text_of verdict_of skip digits_from number field series ends values_of is_digit ports_in_range frame_in_range writing_of
-refused = (refl, refl, refl, refl)
+    (sheet_of 17 2 [] ≡ Err PortsOutOfRange)
+    × (sheet_of 2 0 [] ≡ Err FrameOutOfRange)
+    × (sheet_of 2 2 (ascii "1,1\n1,0\n") ≡ Err NotPlanText)
+unfolding sheet_of read_text_of verdict_of skip digits_from number field series ends values_of is_digit ports_in_range frame_in_range
+refused = (refl, refl, refl)
 
 arguments :
     (argument_of (ascii "15") ≡ Some 15)

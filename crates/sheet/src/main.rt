@@ -1,16 +1,16 @@
 // Reads a plan's text from standard input and writes the plan file to standard output. N and T are the arguments.
 #![tactic(auto)]
 
-ghost use Rattle.std.specs.Prelude.{◌≡◌, ◌≤◌, length, IfOk, IfSome};
+ghost use Rattle.std.specs.Prelude.{◌≡◌, IfOk, IfSome};
 ghost use Rattle.sheet.specs.Sheet.{sheet_of};
 
 use crate::argument::read_argument;
 use crate::plan_file::plan_file;
-use arrayvec::ArrayString;
+use arrayvec::{ArrayString, ArrayVec};
 use console::failure::{Failure, report};
 use console::input::read_input;
 use console::text::{REFUSAL_ROOM, refusal_line};
-use planfile::writing::Writing;
+use planfile::LONGEST_FILE;
 use plantext::MOST_TEXT;
 use refusal::Refusal;
 use std::env::{Env, FillError};
@@ -59,9 +59,12 @@ fn arguments(rt: &HostRuntime) -> Option<(u32, u32)> {
 }
 
 // The plan file of the text that an input has.
-fn read_sheet<R: Read>(input: &mut R, n: u32, t: u32) -> io::Result<Writing>
-    ensures within { IfOk result (λ file. file.length ≤ length file.bytes) }
-    ensures sheet { IfOk result (λ file. IfSome (R.remaining input.old) (λ text. file ≡ sheet_of n t text)) }
+fn read_sheet<R: Read>(
+    input: &mut R,
+    n: u32,
+    t: u32,
+) -> io::Result<Result<ArrayVec<u8, LONGEST_FILE>, Refusal>>
+    ensures { IfOk result (λ file. IfSome (R.remaining input.old) (λ text. file ≡ sheet_of n t text)) }
 {
     let mut text = [0u8; MOST_INPUT];
     let len = read_input(input, &mut text)?;
@@ -70,15 +73,13 @@ fn read_sheet<R: Read>(input: &mut R, n: u32, t: u32) -> io::Result<Writing>
 
 // Standard input to standard output.
 fn convert(rt: &HostRuntime, n: u32, t: u32) -> Result<(), Failure> {
-    let file = read_sheet(&mut rt.stdin(), n, t).map_err(Failure::Input)?;
-    let verdict = file.verdict;
-    let Ok(()) = verdict else {
-        refuse(rt, verdict);
-        return Ok(());
-    };
-    let bytes = file.bytes;
-    let length = file.length;
-    rt.write_all(&bytes[..length]).map_err(Failure::Output)
+    match read_sheet(&mut rt.stdin(), n, t).map_err(Failure::Input)? {
+        Ok(file) => rt.write_all(&file).map_err(Failure::Output),
+        Err(refusal) => {
+            refuse(rt, Err(refusal));
+            Ok(())
+        }
+    }
 }
 
 fn main(rt: HostRuntime) {

@@ -5,7 +5,7 @@ ghost use Rattle.plan.specs.Desk.{desk_of};
 ghost use Rattle.side.specs.Choices.{ServedAs};
 
 use multiplexer::Multiplexer;
-use multiplexer::deadlines::deadline_table;
+use multiplexer::deadlines::{DeadlineTable, deadline_table};
 use plan::desk::desk_view;
 use plan::range::MOST_PORTS;
 
@@ -36,10 +36,11 @@ pub fn serve_all<'a>(
         choices: [None; MOST_PORTS],
     };
     // In every frame, though it is read only where T is 64: a branch makes that frame slower (docs/PERFORMANCE.md).
-    let table = deadline_table();
+    let entries = deadline_table();
+    let table = DeadlineTable { entries: &entries };
     for p in 0..n {
         let desk = desk_view(running, waiting, n, p, takeover);
-        let served = side.ports[p].serve_with(desk, t, slot, &table);
+        let served = side.ports[p].serve_with(desk, t, slot, table);
         side.ports[p] = served.port;
         side.choices[p] = served.choice.map(|f| f as u8);
     }

@@ -2,11 +2,13 @@
 use Prim.Native.Nat.{ℕ, ◌*◌, ◌≤◌}
 use mathlib.Core.Bool.{Bool, true, false, cond}
 use mathlib.Core.List.{List, []}
-use mathlib.Core.Path.{refl}
+use mathlib.Core.Path.{◌≡◌, refl}
 use native.Mathlib.Omega.{arith}
 use lib.Dec.{ltb}
 use lib.ListN.{length, get_or, length-append}
 use Rattle.plan.specs.Range.{most_ports}
+use Rattle.std.specs.Prelude.{Result, Ok, Err}
+use Rattle.refusal.specs.declared.Refusal.{Refusal}
 use Rattle.plan.specs.declared.Plan.{Plan}
 use Rattle.planfile.specs.Read.{read_of}
 use Rattle.planfile.proofs.ReadLaws.{accepted_plan}
@@ -14,14 +16,14 @@ use Rattle.planpair.specs.Rates.{plan_rates}
 use Rattle.multiplexer.specs.Window.{column_of}
 use Rattle.multiplexer.proofs.PortLaws.{column_length}
 use Rattle.meter.specs.Bound.{least_bound, most_bound}
-use Rattle.meter.specs.Search.{cover_of}
+use Rattle.meter.specs.Search.{measured_of}
 use Rattle.meter.specs.declared.Measured.{Measured}
 use Rattle.console.specs.TextBelow.{text_below}
 use Rattle.console.proofs.DigitLaws.{digits_within}
-use Rattle.console.proofs.TextLaws.{refusal_short, either_short}
+use Rattle.console.proofs.TextLaws.{refusal_short}
 use Rattle.console.proofs.TextBelowLaws.{below_short}
 use Rattle.smoothness.specs.Head.{board_lines_of}
-use Rattle.smoothness.specs.Printout.{line_of, stretches, stretches_of, counts, flow_lines_of, three_frames_of, head_lines_of, printout_of, line_room, printout_room}
+use Rattle.smoothness.specs.Printout.{line_of, stretches, stretches_of, counts, flow_lines_of, three_frames_of, head_lines_of, printed_of, printout_of, line_room, printout_room}
 use Rattle.smoothness.proofs.StretchLaws.{length_at}
 use Rattle.smoothness.proofs.PrintoutLaws.{stretch_line, head_by_rates}
 
@@ -54,7 +56,7 @@ flow_short : (recorded : List ℕ) (j i a T : ℕ) → length (flow_lines_of rec
 unfolding flow_lines_of
 flow_short recorded j i a T =
     below_short (stretch_line recorded j i a T) line_room stretches
-    (λ k _. maybe_short line_room (counts (stretches_of T) k) _ (line_short j i a (length_at T k) T (cover_of recorded i (length_at T k))))
+    (λ k _. maybe_short line_room (counts (stretches_of T) k) _ (line_short j i a (length_at T k) T (measured_of recorded i (length_at T k))))
 
 abbrev head_room : ℕ
 head_room = most_ports * flow_room
@@ -73,8 +75,8 @@ module _ (plan : Plan) (few : plan.ports ≤ most_ports) where
 
 pub printout_short : (file : List ℕ) → length (printout_of file) ≤ printout_room
 unfolding printout_of
-printout_short file =
-    let r = read_of file in
-    either_short printout_room r.verdict _ _
-    (λ e. omega (arith, heads_short r.plan (accepted_plan file e).is_plan.few_ports))
-    (omega (arith, refusal_short r.verdict))
+printout_short file = go (read_of file) refl
+  where
+    go : (r : Result Plan Refusal) → read_of file ≡ r → length (printed_of (read_of file)) ≤ printout_room
+    go (Ok plan) e = rw e (omega (arith, heads_short plan (accepted_plan file plan e).is_plan.few_ports))
+    go (Err why) e = rw e (omega (arith, refusal_short (Err why)))

@@ -3,6 +3,7 @@ use Prim.Native.Nat.{ℕ, zero, suc, ◌<◌, ◌≤◌}
 use mathlib.Core.Bool.{Bool, true, false, not, ◌&&◌, ◌||◌}
 use mathlib.Core.List.{List}
 use mathlib.Core.Path.{◌≡◌, refl, ap}
+use native.Mathlib.Nat.{div-le_self}
 use native.Mathlib.Omega.{arith}
 use lib.Dec.{ltb, eqb}
 use lib.ListN.{length, get_or, take}
@@ -22,6 +23,13 @@ neither : (a b : Bool) → (not a && not b) ≡ not (a || (b || false))
 neither true b = refl
 neither false true = refl
 neither false false = refl
+
+pub length_within : (T k : ℕ) → 1 ≤ T → length_at T k ≤ T
+length_within T zero some = some
+length_within T (suc zero) some = div-le_self T 4
+length_within T (suc (suc zero)) some = div-le_self T 2
+length_within T (suc (suc (suc zero))) some = omega arith
+length_within T (suc (suc (suc (suc k)))) some = omega arith
 
 module _ (lengths : List ℕ) (k : ℕ) where
   abbrev l : ℕ

@@ -1,8 +1,8 @@
 -- The printout of a plan file: "for each flow with a rate above 0, the least and the most services of its head in l slots of
 -- three frames, for l = 1, T / 4, T / 2 and T (those of 1 or more, each once), beside the promised bounds." One space parts the
 -- fields and each line ends in LF. Of a file that is refused it is "refused", a space and the number.
-use Rattle.std.specs.Prelude.{ℕ, ◌+◌, ◌*◌, ◌/◌, Bool, cond, not, ◌&&◌, List, [], ◌∷◌, ◌++◌, ltb, eqb, get_or, replicate, codes}
-use Rattle.refusal.specs.Chain.{if_accepted}
+use Rattle.std.specs.Prelude.{ℕ, ◌+◌, ◌*◌, ◌/◌, Bool, cond, not, ◌&&◌, List, [], ◌∷◌, ◌++◌, ltb, eqb, get_or, replicate, codes, Result, Ok, Err}
+use Rattle.refusal.specs.declared.Refusal.{Refusal}
 use Rattle.plan.specs.Range.{most_ports}
 use Rattle.plan.specs.Below.{all_below}
 use Rattle.plan.specs.declared.Plan.{Plan}
@@ -11,7 +11,7 @@ use Rattle.planpair.specs.Rates.{plan_rates}
 use Rattle.multiplexer.specs.Window.{column_of}
 use Rattle.multiplexer.specs.declared.Multiplexer.{Multiplexer}
 use Rattle.meter.specs.Record.{record_from}
-use Rattle.meter.specs.Search.{cover_of}
+use Rattle.meter.specs.Search.{measured_of}
 use Rattle.meter.specs.Bound.{least_bound, most_bound}
 use Rattle.meter.specs.declared.Measured.{Measured}
 use Rattle.console.specs.Text.{decimal_of, field_of}
@@ -43,7 +43,7 @@ counts lengths k = ltb 0 (get_or lengths k 0) && all_below (λ m. not (eqb (get_
 unfoldable pub flow_lines_of : List ℕ → ℕ → ℕ → ℕ → ℕ → List ℕ
 flow_lines_of recorded j i a T =
     let lengths = stretches_of T in
-    text_below (λ k. let l = get_or lengths k 0 in cond (counts lengths k) (line_of j i a l T (cover_of recorded i l)) []) stretches
+    text_below (λ k. let l = get_or lengths k 0 in cond (counts lengths k) (line_of j i a l T (measured_of recorded i l)) []) stretches
 
 -- a port that served nobody in this frame
 abbrev pub fresh : Multiplexer
@@ -61,12 +61,14 @@ head_lines_of plan j =
     let rs = column_of (plan_rates plan) n j in
     text_below (λ i. let a = get_or rs i 0 in cond (ltb 0 a) (flow_lines_of (three_frames_of rs T) j i a T) []) n
 
+-- what is printed of a file's plan, or of its refusal
+abbrev pub printed_of : Result Plan Refusal → List ℕ
+printed_of (Ok plan) = header_text ++ text_below (head_lines_of plan) plan.ports
+printed_of (Err r) = refusal_line_of (Err r)
+
 -- what the program prints of the file with these bytes
 unfoldable pub printout_of : List ℕ → List ℕ
-printout_of file =
-    let reading = read_of file in
-    let plan = reading.plan in
-    if_accepted reading.verdict (header_text ++ text_below (head_lines_of plan) plan.ports) (refusal_line_of reading.verdict)
+printout_of file = printed_of (read_of file)
 
 -- Room for every printout: a number has 20 digits at most, and a space or LF stands behind it.
 abbrev pub header_room : ℕ

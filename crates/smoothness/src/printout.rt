@@ -2,6 +2,7 @@
 ghost use Rattle.std.specs.Prelude.{◌≡◌, ◌+◌, ◌*◌, ◌<◌, ◌≤◌, ◌++◌, length};
 ghost use Rattle.arrayvec.specs.ArrayString.{array_string_len};
 ghost use Rattle.plan.specs.Range.{most_ports, most_slots};
+ghost use Rattle.meter.specs.Cover.{most_record};
 ghost use Rattle.console.specs.TextBelow.{text_below};
 ghost use Rattle.smoothness.specs.Printout.{stretches, counts, flow_lines_of, head_lines_of, printout_of, printout_room};
 ghost use Rattle.smoothness.specs.Head.{flows_lines_of, rates_lines_of};
@@ -29,7 +30,7 @@ fn counts(lengths: [u32; STRETCHES], k: usize) -> bool
 // The lines of a flow whose head has this record.
 #[tactic(auto, using(console::proofs::TextBelowLaws::put_below), unfolding(crate::specs::Printout::flow_lines_of))]
 fn flow_lines(out: &mut Text, recorded: &[u16], flow: Flow)
-    requires { (1 ≤ flow.frame) × (flow.board < most_ports) × (array_string_len out.old + length (flow_lines_of recorded.now flow.head flow.board flow.rate flow.frame) ≤ printout_room) }
+    requires { (1 ≤ flow.frame) × (flow.board < most_ports) × (array_string_len out.old + length (flow_lines_of recorded.now flow.head flow.board flow.rate flow.frame) ≤ printout_room) × (flow.frame ≤ length recorded.now) × (length recorded.now ≤ most_record) }
     ensures { out.new.bytes ≡ out.old.bytes ++ flow_lines_of recorded.now flow.head flow.board flow.rate flow.frame }
 {
     let frame = flow.frame;
@@ -38,7 +39,7 @@ fn flow_lines(out: &mut Text, recorded: &[u16], flow: Flow)
         if !counts(lengths, k) {
             continue;
         }
-        let measured = cover(recorded, flow.board as u16, l as usize);
+        let measured = cover(recorded, flow.board as u16, l as usize).unwrap();
         line(out, flow, l, measured);
     }
 }
@@ -46,7 +47,7 @@ fn flow_lines(out: &mut Text, recorded: &[u16], flow: Flow)
 // The lines of all flows of a head, which has these rates and this record.
 #[tactic(auto, using(console::proofs::TextBelowLaws::put_below))]
 fn flows_lines(out: &mut Text, recorded: &[u16], rates: &[u16], head: usize, frame: u32)
-    requires { (1 ≤ frame) × (length rates.now ≤ most_ports) × (array_string_len out.old + length (flows_lines_of recorded.now rates.now head frame) ≤ printout_room) }
+    requires { (1 ≤ frame) × (length rates.now ≤ most_ports) × (array_string_len out.old + length (flows_lines_of recorded.now rates.now head frame) ≤ printout_room) × (frame ≤ length recorded.now) × (length recorded.now ≤ most_record) }
     ensures { out.new.bytes ≡ out.old.bytes ++ flows_lines_of recorded.now rates.now head frame }
 {
     for (board, &rate) in rates.iter().enumerate() {
@@ -95,14 +96,12 @@ pub fn printout(file: &[u8]) -> Text
     ensures { result.bytes ≡ printout_of file.now }
 {
     let mut out = Text::new();
-    let reading = read(file);
-    let verdict = reading.verdict;
-    let Ok(()) = verdict else {
-        refusal_line(&mut out, verdict);
-        return out;
-    };
-    out.push_str("out in rate slots least promised most promised\n");
-    let plan = reading.plan;
-    heads_lines(&mut out, plan);
+    match read(file) {
+        Ok(plan) => {
+            out.push_str("out in rate slots least promised most promised\n");
+            heads_lines(&mut out, plan);
+        }
+        Err(refusal) => refusal_line(&mut out, Err(refusal)),
+    }
     out
 }

@@ -1,28 +1,22 @@
-use Prim.Native.Nat.{ℕ, ◌+◌, ◌-◌, ◌*◌, ◌/◌, ◌<◌}
-use mathlib.Core.Path.{◌≡◌, ap}
+use Prim.Native.Nat.{◌*◌, ◌<◌, ◌≤◌}
+use mathlib.Core.Path.{refl}
 use mathlib.Core.Logic.{inl, inr}
 use native.Mathlib.Omega.{arith}
-use Rattle.multiplexer.specs.Choose.{deadline}
-use Rattle.multiplexer.specs.Candidate.{never}
-use Rattle.multiplexer.proofs.RoundLaws.{deadline_small}
 use Rattle.multiplexer.proofs.CandidateLaws.{not_soon, some_time}
 use Rattle.multiplexer.proofs.soonest_divided.Goals as goal
 
-pub returns-then-slot-a : goal.returns-then-slot-a
-returns-then-slot-a c =
-    let told_apart : deadline c.args.rate c.args.served c.args.frame < never = deadline_small c.args.rate c.args.served c.args.frame (omega arith) (omega arith) (omega arith) in
-    not_soon _ _ _ _ told_apart (omega arith) (inr (omega arith))
+pub returns-then-from-a : goal.returns-then-from-a
+returns-then-from-a c =
+    let a = c.args in
+    let early : a.slot * a.rate < a.served * a.frame = rw (← c.from-a.ensures, ← c.from.ensures, ← c.from-2.ensures, ← c.from-4.ensures) c.if-from-a.true in
+    not_soon _ _ _ _ (omega arith) (omega arith) (omega arith) (inr early)
 
 pub returns-then-rate-eq0 : goal.returns-then-rate-eq0
-returns-then-rate-eq0 c =
-    let told_apart : deadline c.args.rate c.args.served c.args.frame < never = deadline_small c.args.rate c.args.served c.args.frame (omega arith) (omega arith) (omega arith) in
-    not_soon _ _ _ _ told_apart (omega arith) (inl (omega arith))
+returns-then-rate-eq0 c = not_soon _ _ _ _ (omega arith) (omega arith) (omega arith) (inl c.if-rate-eq0.true)
 
 pub returns : goal.returns
 returns c =
-    let told_apart : deadline c.args.rate c.args.served c.args.frame < never = deadline_small c.args.rate c.args.served c.args.frame (omega arith) (omega arith) (omega arith) in
     let a = c.args in
-    let d = c.at_least_one-d.result in
-    let same : d ≡ a.rate = c.at_least_one-d.ensures.2 (omega arith) in
-    let y = a.served * a.frame + a.frame + (d - 1) in
-    some_time _ _ _ _ told_apart (omega arith) (omega arith) (omega arith) y _ (omega (arith, same)) (ap (λ (z : ℕ). y / z) same)
+    let may : a.served * a.frame ≤ a.slot * a.rate = rw (← c.from-a.ensures, ← c.from.ensures, ← c.from-2.ensures, ← c.from-4.ensures) c.if-from-a.false in
+    some_time _ _ _ _ (omega arith) (omega arith) (omega arith) (omega arith) may _ _ _
+    (rw (c.from.ensures, c.from-2.ensures, c.from-3.ensures) refl) (omega arith) refl

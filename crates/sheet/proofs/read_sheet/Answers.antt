@@ -1,8 +1,10 @@
-use Rattle.std.proofs.Common.{◌≡◌, ◌∙◌, ◌≤◌, length, rules, subst, sym}
-use Rattle.planfile.specs.declared.writing.Writing.{Writing}
+use Rattle.std.proofs.Common.{◌≡◌, ◌∙◌, length, rules}
+use Rattle.arrayvec.specs.ArrayVec.{ArrayVec}
+use Rattle.refusal.specs.declared.Refusal.{Refusal}
+use Rattle.std.specs.Prelude.{Result, ℕ}
 use Rattle.console.proofs.ProgramLaws.{read_whole}
 use Rattle.sheet.specs.Sheet.{sheet_of, most_input}
-use Rattle.sheet.proofs.SheetLaws.{sheet_cut, sheet_within}
+use Rattle.sheet.proofs.SheetLaws.{sheet_cut}
 use Rattle.sheet.proofs.read_sheet.Goals as goal
 
 pub returns : goal.returns
@@ -11,11 +13,6 @@ returns g c =
     let t = c.args.t in
     let read = c.in_ok-len.ensures in
     let room : length c.read_input.new.buffer ≡ most_input = search rules in
-    let file = c.plan_file.ensures in
-    record {
-      within = subst (λ (w : Writing). w.length ≤ length w.bytes) (sym file) (sheet_within n t _);
-      sheet =
-          read_whole (λ text (w : Writing). w ≡ sheet_of n t text) c.read_input.new.buffer c.in_ok-len.len c.plan_file.result read.within
-          (λ text w front. front ∙ rw room (sheet_cut n t text))
-          file (g.R.Read.remaining c.args.input.now) (g.R.Read.remaining c.read_input.new.input) read.bytes;
-    }
+    read_whole (λ text (w : Result (ArrayVec ℕ) Refusal). w ≡ sheet_of n t text) c.read_input.new.buffer c.in_ok-len.len c.plan_file.result read.within
+    (λ text w front. front ∙ rw room (sheet_cut n t text))
+    c.plan_file.ensures (g.R.Read.remaining c.args.input.now) (g.R.Read.remaining c.read_input.new.input) read.bytes

@@ -14,16 +14,16 @@ use Rattle.multiplexer.proofs.Multiplexer.count.Goals as goal
 abbrev countsIn : List ℕ → Multiplexer
 countsIn ks = record { served = ks }
 
-pub returns-in_default : goal.returns-in_default
-returns-in_default c = ap countsIn (sym (rw c.in_default.is (count_idle c.args.self.served)))
+pub returns-in-Some : goal.returns-in-Some
+returns-in-Some c =
+    let chosen = flow_choice _ c.if-f-lt-MOST_PORTS.true ∙ sym c.in-Some.is in
+    c.counted.ensures ∙ ap (count_of c.args.self) chosen
 
-pub returns-then-f-ge-MOST_PORTS : goal.returns-then-f-ge-MOST_PORTS
-returns-then-f-ge-MOST_PORTS c =
+pub returns-in_default : goal.returns-in_default
+returns-in_default c =
     let a = c.args in
     let full : length a.self.served ≡ most_ports = search rules in
     ap countsIn (sym (rw c.in-Some.is (count_outside a.self.served _ (omega arith))))
 
-pub returns : goal.returns
-returns c =
-    let chosen = flow_choice _ (omega arith) ∙ sym c.in-Some.is in
-    c.counted.ensures ∙ ap (count_of c.args.self) chosen
+pub returns-in_default-2 : goal.returns-in_default-2
+returns-in_default-2 c = ap countsIn (sym (rw c.in_default.is (count_idle c.args.self.served)))

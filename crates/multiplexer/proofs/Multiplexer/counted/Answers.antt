@@ -14,4 +14,4 @@ returns c =
     let served = c.args.self.served in
     let full : length served ≡ most_ports = search rules in
     let all : loop.g ≡ most_ports = omega arith in
-    ap (λ (ks : List ℕ). record { served = ks }) (counted_all served _ loop.after full loop.invariant.1 (rw all at loop.invariant.2))
+    ap (λ (ks : List ℕ). record { served = ks }) (counted_all served _ loop.served full loop.invariant.0 (rw all at loop.invariant.1))

@@ -1,4 +1,3 @@
-use Prim.Native.Nat.{◌-◌, ◌≤◌}
 use mathlib.Core.Path.{◌≡◌}
 use lib.ListN.{length}
 use Rattle.plan.specs.Range.{most_ports}
@@ -6,7 +5,4 @@ use Rattle.multiplexer.proofs.NumberLaws.{CountedBelow}
 use Rattle.multiplexer.proofs.Multiplexer.counted.Given as goal
 
 abbrev pub invariant-loop-g : goal.invariant-loop-g
-invariant-loop-g l = (l.g ≤ most_ports) × (length l.after ≡ most_ports) × CountedBelow l.served l.flow l.g l.after
-
-abbrev pub decreases-loop-g : goal.decreases-loop-g
-decreases-loop-g l = most_ports - l.g
+invariant-loop-g l = (length l.served ≡ most_ports) × CountedBelow l.count-items l.flow l.g l.served

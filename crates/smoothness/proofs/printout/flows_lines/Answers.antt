@@ -13,7 +13,7 @@ flow_lines-requires c =
     let a = c.args in
     let l = c.loop-board in
     let is = some_rate a.recorded.now a.rates.now a.head a.frame l.board c.if-rate-eq0.false in
-    (c.requires.0, omega arith, omega (arith, ap length is, below_room _ _ l.invariant c.loop-board-test.true, c.requires.2))
+    (c.requires.0, omega arith, omega (arith, ap length is, below_room _ _ l.invariant c.loop-board-test.true, c.requires.2), c.requires.3, c.requires.4)
 
 pub loop-board-preserved : goal.loop-board-preserved
 loop-board-preserved c =
