@@ -7,7 +7,8 @@ use crate::Fabric;
 use side::choices::Side;
 
 impl Fabric {
-    // The counts of the ports below n, as their slot leaves them. By number, as ports_below has it.
+    // The counts of the ports below n, as their slot leaves them. By number: of a field that is lent to `copy_from_slice`, a proof
+    // knows nothing of the structs in it.
     pub fn counted(mut self, boards: Side, heads: Side, n: usize) -> Fabric
         requires { n ≤ most_ports }
         ensures { result ≡ counted_of self boards.ports heads.ports n }
