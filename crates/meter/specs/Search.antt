@@ -8,7 +8,7 @@ use Rattle.meter.specs.Answer.{cover_verdict}
 use Rattle.meter.specs.declared.Measured.{Measured}
 use Rattle.meter.specs.declared.Stretch.{Stretch}
 
--- whether a services are better than b: where fewer are looked for, and where more are
+-- whether a is fewer services than b, and whether it is more
 abbrev pub fewer : ℕ → ℕ → Bool
 fewer a b = ltb a b
 

@@ -18,12 +18,12 @@ use Rattle.multiplexer.proofs.ChoiceLaws.{is_eligible, ineligible}
 use Rattle.multiplexer.specs.declared.Candidate.{Candidate}
 
 -- what the tests of a flow make of it
-module _ (a k T t : ℕ) (narrow : a < 65536) (short : k < 65536) (brief : T < 4294967296) where
+module _ (a k T t : ℕ) (rate_16 : a < 65536) (count_16 : k < 65536) (frame_32 : T < 4294967296) where
   pub not_soon : (a ≡ 0) ⊎ (t * a < k * T) → Soonest a k T t never
-  not_soon h = record { is = rw (ineligible a k T t h) refl; told_apart = deadline_small a k T narrow short brief; fits = omega arith }
+  not_soon h = record { is = rw (ineligible a k T t h) refl; told_apart = deadline_small a k T rate_16 count_16 frame_32; fits = omega arith }
 
   pub soon : 0 < a → k * T ≤ t * a → (r : ℕ) → r ≡ deadline a k T → Soonest a k T t r
-  soon pos may r e = record { is = e ∙ (rw (is_eligible a k T t pos may) refl); told_apart = deadline_small a k T narrow short brief; fits = omega arith }
+  soon pos may r e = record { is = e ∙ (rw (is_eligible a k T t pos may) refl); told_apart = deadline_small a k T rate_16 count_16 frame_32; fits = omega arith }
 
   pub some_time : 0 < a → k * T ≤ t * a → (y d r : ℕ) → y ≡ k * T + T + (d - 1) → d ≡ a → r ≡ y / d → Soonest a k T t r
   some_time pos may y d r due by q =

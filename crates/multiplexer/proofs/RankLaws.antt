@@ -26,7 +26,7 @@ module _ (d a e b : ℕ) (ha : a ≤ most_rate) (hb : b ≤ most_rate) where
       tie
       (λ l. le-ltb (rank_of d a) (rank_of e b) (omega arith))
 
--- the rank of an eligible flow is below that of `Idle`, and the rank of another flow is not
+-- the rank of an eligible flow is below that of `None`, and the rank of another flow is not
 pub rank_eligible : (d a : ℕ) → d < never → rank_of d a < rank_of never most_rate
 rank_eligible d a l = omega arith
 

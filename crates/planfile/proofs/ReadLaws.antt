@@ -82,6 +82,6 @@ accepted_plan file plan e =
     let known = read_accepted file plan e in
     subst FilePlan known.1 (plan_read (ports_in file) (frame_in file) (rates_in file) (accepted_file file known.0).plan)
 
-pub refused_plan : (file : List ℕ) (r : Refusal) → read_of file ≡ Err r → verdict_of file ≡ Err r
+pub refused_file : (file : List ℕ) (r : Refusal) → read_of file ≡ Err r → verdict_of file ≡ Err r
 unfolding read_of
-refused_plan file r e = refusal_kept (verdict_of file) (plan_of (ports_in file) (frame_in file) (rates_in file)) r e
+refused_file file r e = refusal_kept (verdict_of file) (plan_of (ports_in file) (frame_in file) (rates_in file)) r e

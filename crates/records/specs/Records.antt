@@ -73,12 +73,12 @@ slot_record r =
       sends = port_records r.sends;
     }
 
--- of a file that is refused the plan is all 0
+-- "Where an operation was handed no state or plan and would answer one, the refusal's is all 0": the plan of a file that is refused
 abbrev pub reading_record : Result Plan Refusal → ReadingRecord
 reading_record (Ok plan) = record { verdict = verdict_number_of (Ok tt); plan = plan }
 reading_record (Err why) = record { verdict = verdict_number_of (Err why); plan = no_plan }
 
--- and of a record that is refused both stretches are
+-- "the other numbers of a refused answer are 0": the stretches of a record that is refused
 abbrev pub no_stretch : Stretch
 no_stretch = record { services = 0; place = 0 }
 

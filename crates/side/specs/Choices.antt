@@ -29,7 +29,7 @@ pub record CanChoose (n : ℕ) (choices : List (Option ℕ)) : Type 0 where
   pub few_ports : n ≤ most_ports
   pub named : NamesBelow n choices
 
--- For the code, which keeps a choice in two bytes: it names a port that a switch can have, if it names one.
+-- For the code: a choice names a port that a switch can have, if it names one.
 abbrev pub ChoosesPort : Option ℕ → Type 0
 ChoosesPort None = Unit {0}
 ChoosesPort (Some other) = other < most_ports
