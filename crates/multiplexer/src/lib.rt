@@ -124,10 +124,7 @@ fn choice_of(flow: u16) -> Option<usize>
 fn one_more(count: u16, g: u16, flow: u16) -> u16
     ensures { result ≡ cond (eqb g flow) (one_more count) count }
 {
-    if g == flow {
-        return count.saturating_add(1);
-    }
-    count
+    count.saturating_add(u16::from(g == flow))
 }
 
 impl Multiplexer {
