@@ -171,10 +171,7 @@ impl Multiplexer {
     fn counted(self, flow: u16) -> Multiplexer
         ensures { result ≡ count_of self (choice_of flow) }
     {
-        let mut served = [0; MOST_PORTS];
-        for (g, count) in self.served.iter().enumerate() {
-            served[g] = one_more(*count, g as u16, flow);
-        }
+        let served = std::array::from_fn(|g| one_more(self.served[g], g as u16, flow));
         Multiplexer { served }
     }
 
