@@ -22,7 +22,7 @@ pub const TABLE_FRAME: u32 = 64;
 const NO_FLOW: u16 = MOST_PORTS as u16;
 
 // Above every deadline that counts of 16 and a frame of 32 bits give: 48 bits, so that a rank has 64.
-const NEVER: u64 = 281474976710655;
+const NEVER: u64 = (1 << 48) - 1;
 
 // How many ranks there are for one deadline: one for each rate.
 const RATES: u64 = 65536;
