@@ -1,5 +1,5 @@
 -- A choice as the code keeps it, by number: which choice it is, and the counts after it.
-use Prim.Native.Nat.{ℕ, suc, ◌<◌, ◌≤◌}
+use Prim.Native.Nat.{ℕ, ◌<◌, ◌≤◌}
 use mathlib.Core.Path.{◌≡◌, refl, sym, ◌∙◌}
 use mathlib.Core.Bool.{cond}
 use mathlib.Core.Logic.{⊎_elim}
@@ -7,12 +7,12 @@ use mathlib.Core.List.{List}
 use native.Mathlib.Omega.{arith}
 use native.Mathlib.Decide.{ℕ_discrete}
 use lib.Dec.{eqb}
-use lib.ListN.{length, get_or, set}
-use lib.Seq.{get_or-set_same, get_or-set_other, ext_get_or}
+use lib.ListN.{length, get_or}
+use lib.Seq.{get_or-set_same, ext_get_or}
 use borrow.Author.Tests.{lt-ltb, le-ltb, eq-eqb, ne_eqb}
 use Rattle.std.specs.Prelude.{Option, Some, None}
 use Rattle.plan.specs.Range.{most_ports}
-use Rattle.plan.proofs.BelowLaws.{lt_or_le, below_or_last}
+use Rattle.plan.proofs.BelowLaws.{lt_or_le}
 use Rattle.multiplexer.specs.Choose.{choose_of, flows_of, IsChoice}
 use Rattle.multiplexer.specs.Count.{one_more, counts_after}
 use Rattle.multiplexer.specs.Candidate.{choice_of}
@@ -42,7 +42,7 @@ number_chosen rs ks T t = go (choose_of rs ks T t) (choose_is rs ks T t)
 
 module _ (ks : List ℕ) (flow : ℕ) where
   -- the count of flow g after the service
-  abbrev count_of_flow : ℕ → ℕ
+  abbrev pub count_of_flow : ℕ → ℕ
   count_of_flow g = cond (eqb g flow) (one_more (get_or ks g 0)) (get_or ks g 0)
 
   count_at : (g : ℕ) → length ks ≡ most_ports → g < most_ports → get_or (counts_after ks (choice_of flow)) g 0 ≡ count_of_flow g
@@ -57,18 +57,7 @@ module _ (ks : List ℕ) (flow : ℕ) where
       chosen b (yes e) = rw (eq-eqb g flow e, e) (get_or-set_same ks flow _ 0 (omega (arith, full)))
       chosen b (no ne) = rw (ne_eqb g flow ne) (count_other ks flow g ne)
 
-  -- the counts of the flows below n are made
-  abbrev pub CountedBelow : ℕ → List ℕ → Type 0
-  CountedBelow n after = (g : ℕ) → g < n → get_or after g 0 ≡ count_of_flow g
-
-  pub counted_next : (n : ℕ) (after : List ℕ) → n < length after → CountedBelow n after → CountedBelow (suc n) (set after n (count_of_flow n))
-  counted_next n after room made g l =
-      ⊎_elim
-      (λ (b : g < n). get_or-set_other after n g (count_of_flow n) 0 (λ e. omega arith) ∙ made g b)
-      (λ (e : g ≡ n). rw e (get_or-set_same after n (count_of_flow n) 0 room))
-      (below_or_last g n l)
-
-  pub counted_all : (after : List ℕ) → length ks ≡ most_ports → length after ≡ most_ports → CountedBelow most_ports after → after ≡ counts_after ks (choice_of flow)
+  pub counted_all : (after : List ℕ) → length ks ≡ most_ports → length after ≡ most_ports → ((g : ℕ) → g < most_ports → get_or after g 0 ≡ count_of_flow g) → after ≡ counts_after ks (choice_of flow)
   counted_all after full len made =
       ext_get_or 0 after (counts_after ks (choice_of flow)) (omega (arith, len, full, count_length ks (choice_of flow)))
       (λ g l. made g (omega (arith, len)) ∙ sym (count_at g full (omega (arith, len))))

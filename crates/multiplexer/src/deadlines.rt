@@ -4,8 +4,10 @@ ghost use Rattle.std.specs.Prelude.{◌≡◌, ◌*◌, ◌≤◌};
 ghost use Rattle.multiplexer.specs.Choose.{rounded_up};
 ghost use Rattle.multiplexer.specs.Deadlines.{table_frame, TableRule};
 
+use crate::TABLE_FRAME;
+
 // How many there are: one for each service of each rate.
-pub const ENTRIES: usize = 2080;
+pub const ENTRIES: usize = TABLE_FRAME as usize * (TABLE_FRAME as usize + 1) / 2;
 
 const DEADLINES: [u8; ENTRIES] = [
     64, 32, 64, 22, 43, 64, 16, 32, 48, 64, 13, 26, 39, 52, 64, 11, 22, 32, 43, 54, 64, 10, 19, 28,
@@ -117,5 +119,5 @@ pub(crate) fn read_deadline(table: &[u8], rate: u16, service: u16) -> u8
 {
     let a = usize::from(rate);
     // those of all smaller rates stand before it
-    table[(a * (a - 1) >> 1) + (usize::from(service) - 1)]
+    table[a * (a - 1) / 2 + (usize::from(service) - 1)]
 }

@@ -23,7 +23,7 @@ const NO_FLOW: u16 = MOST_PORTS as u16;
 
 // Above every deadline that counts of 16 and a frame of 32 bits give: 48 bits, so that a rank has 64.
 // With an Option in its place the table is read behind a jump: a slot of 16 boards at T = 64 takes 41 to 54 percent longer.
-const NEVER: u64 = 281474976710655;
+const NEVER: u64 = (1 << 48) - 1;
 
 // How many ranks there are for one deadline: one for each rate.
 const RATES: u64 = 65536;
@@ -125,10 +125,7 @@ fn choice_of(flow: u16) -> Option<usize>
 fn one_more(count: u16, g: u16, flow: u16) -> u16
     ensures { result ≡ cond (eqb g flow) (one_more count) count }
 {
-    if g == flow {
-        return count.saturating_add(1);
-    }
-    count
+    count.saturating_add(u16::from(g == flow))
 }
 
 impl Multiplexer {
@@ -175,10 +172,7 @@ impl Multiplexer {
     fn counted(self, flow: u16) -> Multiplexer
         ensures { result ≡ count_of self (choice_of flow) }
     {
-        let mut served = [0; MOST_PORTS];
-        for (g, count) in self.served.iter().enumerate() {
-            served[g] = one_more(*count, g as u16, flow);
-        }
+        let served = std::array::from_fn(|g| one_more(self.served[g], g as u16, flow));
         Multiplexer { served }
     }
 

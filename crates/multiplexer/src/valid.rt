@@ -26,10 +26,9 @@ impl Multiplexer {
         requires { p < rates.now.n }
         ensures { result ≡ port_valid rates.now.list.now self.served rates.now.n (p * rates.now.across) rates.now.along slot }
     {
-        let served = self.served;
         let mut valid = true;
-        for f in 0..rates.n {
-            valid &= count_valid(slot, rates.rate(p, f), served[f]);
+        for (f, count) in self.served[..rates.n].iter().enumerate() {
+            valid &= count_valid(slot, rates.rate(p, f), *count);
         }
         valid
     }

@@ -64,11 +64,10 @@ choices_ext line line' ports t slot (suc m) h = rw (choices_ext line line' ports
 
 -- The slot of a side's ports, as the code keeps it.
 module _ (line : ℕ → List ℕ) (ports : List Multiplexer) (t slot : ℕ) where
-  -- the ports below m have had their slot; those from m up are as they were
+  -- the ports below m have had their slot
   pub record ServedBelow (m : ℕ) (s : Side) : Type 0 where
     pub so_far : ServedAs line ports t slot m s
     pub full : length s.ports ≡ most_ports
-    pub later : (p : ℕ) → m ≤ p → get_or s.ports p no_multiplexer ≡ get_or ports p no_multiplexer
 
   pub served_none : length ports ≡ most_ports → ServedBelow 0 (record { ports = ports; choices = replicate most_ports None })
   unfolding choices_of
@@ -76,15 +75,14 @@ module _ (line : ℕ → List ℕ) (ports : List Multiplexer) (t slot : ℕ) whe
       record {
         so_far = record { choices = refl; served = λ p l. absurd (omega arith) };
         full = full;
-        later = λ p l. refl;
       }
 
   -- one port more
   module _ (m : ℕ) (s : Side) (before : ServedBelow m s) (rates : List ℕ) (r : Served) (choice : Option ℕ)
-      (small : m < most_ports) (rules : rates ≡ line m) (is : r ≡ serve_of (get_or s.ports m no_multiplexer) rates t slot) (says : choice ≡ r.choice)
+      (small : m < most_ports) (rules : rates ≡ line m) (is : r ≡ serve_of (get_or ports m no_multiplexer) rates t slot) (says : choice ≡ r.choice)
     where
       own : r ≡ serve_of (get_or ports m no_multiplexer) (line m) t slot
-      own = is ∙ (rw (rules, before.later m (omega arith)) refl)
+      own = is ∙ (rw rules refl)
 
       pub served_next : ServedBelow (m + 1) (record { ports = set s.ports m r.port; choices = set s.choices m choice })
       unfolding choices_of
@@ -100,7 +98,6 @@ module _ (line : ℕ → List ℕ) (ports : List Multiplexer) (t slot : ℕ) whe
                       (below_or_last p m (omega arith));
                 };
             full = length-set s.ports m r.port ∙ before.full;
-            later = λ p l. get_or-set_other s.ports m p r.port no_multiplexer (λ e. omega arith) ∙ before.later p (omega arith);
           }
 
 -- what holds by one list of lines holds by another that has the same lines below n

@@ -38,9 +38,9 @@ pub fn serve_all<'a>(
     // In every frame, though it is read only where T is 64: a branch makes that frame slower (docs/PERFORMANCE.md).
     let entries = deadline_table();
     let table = DeadlineTable { entries: &entries };
-    for p in 0..n {
+    for (p, port) in ports[..n].iter().enumerate() {
         let desk = desk_view(running, waiting, n, p, takeover);
-        let served = side.ports[p].serve_with(desk, t, slot, table);
+        let served = port.serve_with(desk, t, slot, table);
         side.ports[p] = served.port;
         side.choices[p] = served.choice.map(|f| f as u8);
     }

@@ -12,7 +12,10 @@ use plan::range::MOST_PORTS;
 fn ports_valid(rates: &Lines, ports: [Multiplexer; MOST_PORTS], slot: u32) -> bool
     ensures { result ≡ ports_valid rates.now.list.now ports rates.now.n rates.now.across rates.now.along slot }
 {
-    (0..rates.n).all(|p| ports[p].counts_valid(rates, p, slot))
+    ports[..rates.n]
+        .iter()
+        .enumerate()
+        .all(|(p, port)| port.counts_valid(rates, p, slot))
 }
 
 // The counts of all ports below N, judged by the rates of the running plan.
