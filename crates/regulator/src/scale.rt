@@ -24,8 +24,8 @@ fn scale_places(n: usize, t: u32, demands: &[u16], rates: &mut [u16])
     ensures { rates.new ≡ scaled_of n t demands.now }
 {
     let sums = Sums::of(demands, n);
-    for p in 0..n * n {
-        rates[p] = share(demands[p], t, sums.larger(p / n, p % n));
+    for (p, rate) in rates.iter_mut().enumerate() {
+        *rate = share(demands[p], t, sums.larger(p / n, p % n));
     }
 }
 
