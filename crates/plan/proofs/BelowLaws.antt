@@ -1,16 +1,17 @@
 -- Sums and tests over the numbers below n: one more term, all terms compared, one term changed or alone, sums of sums.
 use Prim.Native.Nat.{ℕ, zero, suc, ◌+◌, ◌*◌, ◌<◌, ◌≤◌}
-use mathlib.Core.Path.{◌≡◌, refl, sym, ◌∙◌}
+use mathlib.Core.Path.{◌≡◌, refl, ap, sym, ◌∙◌}
 use mathlib.Core.Bool.{Bool, true, false, ◌&&◌}
 use mathlib.Core.Logic.{◌⊎◌, inl, inr, ⊎_elim}
 use native.Mathlib.Decide.{dec_lt}
 use native.Mathlib.Nat.{add-zero, zero-add, add-suc, zero-mul, suc-mul}
+use native.Mathlib.Numerals.{add-one}
 use native.Mathlib.Omega.{arith}
-use mathlib.Core.List.{List}
+use mathlib.Core.List.{List, map}
 use lib.ListN.{length, get_or}
 use Rattle.std.specs.Prelude.{MatchBool}
-use Rattle.std.specs.List.{AllWithin, HoldsAt, range_with_len}
-use Rattle.std.proofs.lemmas.List.FromFn.{length-range_with_len, get_or-range_with_len}
+use Rattle.std.specs.List.{AllWithin, HoldsAt, range_with_len, sum}
+use Rattle.std.proofs.lemmas.List.FromFn.{length-range_with_len, get_or-range_with_len, sum_by-map-range_with_len_more}
 use Rattle.plan.specs.Below.{sum_below, all_below}
 
 pub lt_or_le : (m n : ℕ) → (m < n) ⊎ (n ≤ m)
@@ -121,6 +122,11 @@ all_by_list p x xs n true size has h = sym (all_intro (λ k. p (x k)) n (λ k l.
 all_by_list p x xs n false size has h =
     let below : h.0 < n = omega (arith, h.1, size) in
     sym (all_fails (λ k. p (x k)) n h.0 below (rw (has h.0 below) at (h.2 0)))
+
+-- the terms at 0, .., n - 1, added up one after the other
+pub sum_by_range : (x : ℕ → ℕ) (n : ℕ) → sum (map x (range_with_len 0 n)) ≡ sum_below x n
+sum_by_range x zero = refl
+sum_by_range x (suc n) = rw (add-one n) at (sum_by-map-range_with_len_more (λ y. y) x 0 n n (zero-add n)) ∙ ap (λ s. s + x n) (sum_by_range x n)
 
 -- and over the numbers 0, .., n - 1
 pub all_by_range : (p : ℕ → Bool) (n : ℕ) (r : Bool)

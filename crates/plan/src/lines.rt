@@ -52,16 +52,11 @@ impl<'a> Lines<'a> {
     }
 
     // The sum of line k.
-    #[tactic(auto, unfolding(crate::specs::Lines::line_sum))]
     pub fn sum(&self, k: usize) -> u32
         requires { k < self.now.n }
         ensures { result ≡ line_sum self.now.list.now self.now.n self.now.across self.now.along k }
     {
-        let mut sum = 0;
-        for m in 0..self.n {
-            sum += u32::from(self.rate(k, m));
-        }
-        sum
+        (0..self.n).map(|m| u32::from(self.rate(k, m))).sum()
     }
 
     // Whether no line's sum is above t.

@@ -40,6 +40,10 @@ digits_from (suc room) count value [] = record { count = count; value = value; r
 digits_from (suc room) count value (b ∷ text) =
     cond (is_digit b) (digits_from room (suc count) (value * 10 + digit_of b) text) (record { count = count; value = value; rest = b ∷ text })
 
+-- for the code: the number and what is left, where there is a digit
+abbrev pub some_digit : Run → Option (ℕ × List ℕ)
+some_digit run = cond (leb 1 run.count) (Some (run.value, run.rest)) None
+
 -- "one to five decimal digits", and no "value above 65,535"
 abbrev pub checked_run : Run → Parsed
 checked_run run = cond (leb 1 run.count && leb run.value 65535) (parsed (run.value ∷ []) run.rest) None

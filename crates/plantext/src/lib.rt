@@ -37,9 +37,7 @@ fn read_rates(n: usize, t: u32, text: &[u8], rates: &mut [u16]) -> Result<(), Re
 {
     let mut values = [0u16; MOST_FLOWS];
     let flows = n * n;
-    let Some(()) = read_values(text, n, &mut values[..flows]) else {
-        return Err(Refusal::NotPlanText);
-    };
+    read_values(text, n, &mut values[..flows]).ok_or(Refusal::NotPlanText)?;
     hand_over(n, t, &values[..flows], rates)
 }
 

@@ -5,14 +5,6 @@ ghost use Rattle.plantext.specs.Values as values;
 
 use crate::digit::{digit_of, is_digit};
 
-// Digits: how many, the number that they write, and what is left behind them.
-#[derive(Drop)]
-struct Digits<'a> {
-    count: usize,
-    value: u32,
-    rest: &'a [u8],
-}
-
 const MOST_DIGITS: usize = 5;
 
 #[tactic(auto, using(crate::proofs::SeriesLaws::skip_prefix))]
@@ -22,9 +14,9 @@ pub fn skip<'a>(text: &'a [u8], mark: &[u8]) -> Option<&'a [u8]>
     text.strip_prefix(mark)
 }
 
-// As many digits as there are, five at most.
-fn read_digits(text: &[u8]) -> Digits<'_>
-    ensures { record { count = result.count; value = result.value; rest = result.rest.now } ≡ values.digits_from 5 0 0 text.now }
+// The number of as many digits as there are, five at most; no number without a digit.
+fn read_digits(text: &[u8]) -> Option<(u32, &[u8])>
+    ensures { option_map (λ digits. (digits.0, digits.1.now)) result ≡ values.some_digit (values.digits_from 5 0 0 text.now) }
 {
     let mut value: u32 = 0;
     let mut rest = text;
@@ -34,25 +26,18 @@ fn read_digits(text: &[u8]) -> Digits<'_>
                 value = value * 10 + digit_of(*byte);
                 rest = behind;
             }
-            _ => return Digits { count, value, rest },
+            _ => return (count >= 1).then_some((value, rest)),
         }
     }
-    Digits {
-        count: MOST_DIGITS,
-        value,
-        rest,
-    }
+    Some((value, rest))
 }
 
 #[tactic(auto, unfolding(crate::specs::Values::number))]
 fn read_number(text: &[u8]) -> Option<(u16, &[u8])>
     ensures { option_map (λ field. (field.0 ∷ [], field.1.now)) result ≡ values.number text.now }
 {
-    let digits = read_digits(text);
-    if digits.count < 1 {
-        return None;
-    }
-    Some((u16::try_from(digits.value).ok()?, digits.rest))
+    let (value, rest) = read_digits(text)?;
+    Some((u16::try_from(value).ok()?, rest))
 }
 
 // Plain or in double quotes.

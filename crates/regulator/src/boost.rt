@@ -29,7 +29,7 @@ fn column_on(n: usize, k: usize, i: usize) -> usize
     (i + k) % n
 }
 
-// Diagonal k. The sums of the rates are kept.
+// Diagonal k. The sums of the rates are kept. By number: i is the row of a flow, whose column, place and sums it gives.
 #[tactic(auto, unfolding(crate::specs::Boost::boost_diagonal))]
 fn boost_diagonal(n: usize, t: u32, k: usize, sums: &mut Sums, rates: &mut [u16])
     requires { IsPlan n t rates.old × LineSums rates.old n sums.old.rows sums.old.columns × (k < n) }
@@ -52,6 +52,7 @@ fn diagonal_in(n: usize, period: u32, turn: usize) -> usize
     (period as usize + turn) % n
 }
 
+// All diagonals. By number: each turn has its diagonal, and nothing is walked over.
 #[tactic(auto, unfolding(crate::specs::Boost::boosted_of, crate::specs::Boost::boost_diagonals))]
 fn boost_diagonals(n: usize, t: u32, period: u32, mut sums: Sums, rates: &mut [u16])
     requires { IsPlan n t rates.old × LineSums rates.old n sums.rows sums.columns }

@@ -19,13 +19,14 @@ fn share(d: u16, t: u32, sum: u32) -> u16
     (u32::from(d) * t / sum) as u16
 }
 
+// The rates at all places. The place stands beside the rate: it gives the flow's row and column.
 fn scale_places(n: usize, t: u32, demands: &[u16], rates: &mut [u16])
     requires { Checked n t (length demands.now) (length rates.old) }
     ensures { rates.new ≡ scaled_of n t demands.now }
 {
     let sums = Sums::of(demands, n);
-    for p in 0..n * n {
-        rates[p] = share(demands[p], t, sums.larger(p / n, p % n));
+    for (p, rate) in rates.iter_mut().enumerate() {
+        *rate = share(demands[p], t, sums.larger(p / n, p % n));
     }
 }
 

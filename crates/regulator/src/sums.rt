@@ -1,10 +1,22 @@
 // The sums of all rows and columns of a list, kept side by side.
 ghost use Rattle.std.specs.Prelude.{◌≡◌, ◌+◌, ◌*◌, ◌<◌, ◌≤◌, ◌^◌, max, length, get_or, set};
+ghost use Rattle.plan.specs.Lines.{line_sum};
 ghost use Rattle.plan.specs.Range.{most_ports};
-ghost use Rattle.regulator.specs.Sums.{LineSums};
+ghost use Rattle.regulator.specs.Sums.{Holds, LineSums};
 
 use plan::lines::Lines;
 use plan::range::MOST_PORTS;
+
+// The sums of the lines, and 0 in the places past them.
+fn sums_of(lines: &Lines<'_>) -> [u32; MOST_PORTS]
+    ensures { Holds result (line_sum lines.now.list.now lines.now.n lines.now.across lines.now.along) lines.now.n }
+{
+    let mut sums = [0; MOST_PORTS];
+    for (k, sum) in sums[..lines.n].iter_mut().enumerate() {
+        *sum = lines.sum(k);
+    }
+    sums
+}
 
 #[derive(Drop)]
 pub struct Sums {
@@ -17,17 +29,10 @@ impl Sums {
         requires { (n ≤ most_ports) × (length list.now ≡ n * n) }
         ensures { LineSums list.now n result.rows result.columns }
     {
-        let rows = Lines::rows(list, n);
-        let columns = Lines::columns(list, n);
-        let mut sums = Sums {
-            rows: [0; MOST_PORTS],
-            columns: [0; MOST_PORTS],
-        };
-        for k in 0..n {
-            sums.rows[k] = rows.sum(k);
-            sums.columns[k] = columns.sum(k);
+        Sums {
+            rows: sums_of(&Lines::rows(list, n)),
+            columns: sums_of(&Lines::columns(list, n)),
         }
-        sums
     }
 
     // The larger of the sums of row i and column j.

@@ -1,4 +1,11 @@
-use mathlib.Core.Path.{sym, ◌∙◌}
+use mathlib.Core.Bool.{Bool, true, false, cond}
+use mathlib.Core.List.{List}
+use mathlib.Core.Path.{◌≡◌, refl, sym, ◌∙◌}
+use Prim.Native.Nat.{ℕ}
+use lib.Dec.{leb}
+use denote.Ref.{Bor}
+use Rattle.std.specs.Prelude.{Some, None, option_map}
+use Rattle.std.specs.Bool.{then_some}
 use native.Mathlib.Omega.{arith}
 use borrow.Author.Tests.{ltb-true}
 use Rattle.plantext.proofs.RuleLaws.{NoDigit}
@@ -6,6 +13,11 @@ use Rattle.plantext.proofs.NumberLaws.{none_taken}
 use Rattle.plantext.proofs.SeriesLaws.{no_digit_left, no_digit_first, digit_taken, digits_full, value_below}
 use Rattle.plantext.proofs.scan.read_digits.Goals as goal
 use Rattle.plantext.proofs.scan.read_digits.Goals.{in_default-via-then-rest-lt1, in_default-via-in-len1-up+else-is_digit}
+
+-- what is there under a condition
+some_where : (b : Bool) (value : ℕ) (rest : Bor (List ℕ)) → option_map {U = ℕ × List ℕ} (λ (digits : ℕ × Bor (List ℕ)). (digits.0, digits.1.now)) (then_some b (value, rest)) ≡ cond b (Some (value, rest.now)) None
+some_where true value rest = refl
+some_where false value rest = refl
 
 pub returns-in_default : goal.returns-in_default
 returns-in_default c =
@@ -15,7 +27,8 @@ returns-in_default c =
       | in_default-via-then-rest-lt1 w ↦ no_digit_left _ (omega (arith, ltb-true))
       | in_default-via-in-len1-up+else-is_digit w ↦ no_digit_first _ (sym w.is_digit.ensures ∙ w.if-is_digit.false)
     ] in
-    sym (none_taken _ _ _ _ clear) ∙ at.invariant.taken
+    let taken = sym (none_taken _ _ _ _ clear) ∙ at.invariant.taken in
+    rw (sym taken, c.then_some.ensures) (some_where (leb 1 at.count) at.value at.rest)
 
 pub loop-count-preserved : goal.loop-count-preserved
 loop-count-preserved c =
@@ -26,4 +39,4 @@ loop-count-preserved c =
     }
 
 pub returns : goal.returns
-returns c = let at = c.loop-count in sym (digits_full at.count at.value _ (omega arith)) ∙ at.invariant.taken
+returns c = let at = c.loop-count in let taken = sym (digits_full at.count at.value _ (omega arith)) ∙ at.invariant.taken in rw (sym taken) cc
