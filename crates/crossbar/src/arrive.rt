@@ -4,7 +4,6 @@ ghost use Rattle.crossbar.specs.Arrive.{arrive_verdict, Arrives};
 
 use crate::state::{Reply, Switch};
 use crate::valid::store_fits;
-use fabric::flow::Queue;
 use fabric::places::ring_place;
 use plan::lines::flow_place;
 use refusal::Refusal;
@@ -32,7 +31,7 @@ impl Switch {
     }
 
     // Put a cell of board i for head j into its queue.
-    pub fn arrive(self, store: &mut [u32], i: usize, j: usize, cell: u32) -> Reply
+    pub fn arrive(mut self, store: &mut [u32], i: usize, j: usize, cell: u32) -> Reply
         ensures { Arrives self store.old i j cell result store.new }
     {
         let verdict = self.arrive_verdict(store.len(), i, j);
@@ -47,11 +46,10 @@ impl Switch {
         let queue = self.fabric.queues[k];
         let next = ring_place(usize::from(queue.place) + usize::from(queue.count), depth);
         store[k * depth + next] = cell;
-        let mut state = self;
-        state.fabric.queues[k] = Queue {
-            count: queue.count + 1,
-            ..queue
-        };
-        Reply { state, verdict }
+        self.fabric.queues[k].count += 1;
+        Reply {
+            state: self,
+            verdict,
+        }
     }
 }

@@ -3,7 +3,6 @@
 
 mod arrive;
 mod load;
-mod plans;
 pub mod start;
 pub mod state;
 mod step;

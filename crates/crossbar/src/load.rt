@@ -2,9 +2,9 @@
 ghost use Rattle.std.specs.Prelude.{◌≡◌};
 ghost use Rattle.crossbar.specs.Load.{load_verdict, Loads};
 
-use crate::plans::plan_over;
 use crate::state::{Reply, Switch};
 use plan::acceptance::accept;
+use planpair::rates::plan_over;
 use refusal::Refusal;
 
 impl Switch {
@@ -23,7 +23,7 @@ impl Switch {
     }
 
     // Put a plan in waiting, in the place of one that waits already.
-    pub fn load(self, n: usize, t: u32, rates: &[u16]) -> Reply
+    pub fn load(mut self, n: usize, t: u32, rates: &[u16]) -> Reply
         ensures { Loads self n t rates.now result }
     {
         let verdict = self.load_verdict(n, t, rates);
@@ -33,9 +33,11 @@ impl Switch {
                 verdict,
             };
         };
-        let mut state = self;
-        state.waiting = plan_over(self.waiting, n, t, rates);
-        state.waits = 1;
-        Reply { state, verdict }
+        self.waiting = plan_over(self.waiting, n, t, rates);
+        self.waits = 1;
+        Reply {
+            state: self,
+            verdict,
+        }
     }
 }

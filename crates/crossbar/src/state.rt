@@ -1,4 +1,7 @@
 // The state of the switch, and what its calls answer.
+ghost use Rattle.std.specs.Prelude.{◌≡◌};
+ghost use Rattle.crossbar.specs.State.{has_waiting};
+
 use fabric::Fabric;
 use fabric::flow::Answer;
 use plan::Plan;
@@ -16,6 +19,15 @@ pub struct Switch {
     pub depth: usize,
     pub slot: u32,
     pub fabric: Fabric,
+}
+
+impl Switch {
+    // Whether a plan waits.
+    pub(crate) fn has_waiting(&self) -> bool
+        ensures { result ≡ has_waiting self.now }
+    {
+        self.waits != 0
+    }
 }
 
 // What start, arrive and load answer: a state on a refusal too, which start_of, arrive_of and load_of say, and so no Result of

@@ -2,11 +2,10 @@
 // through them the compiler copies the state no more than it has to.
 ghost use Rattle.std.specs.Prelude.{true, cond, ◌&&◌, ◌≡◌, ◌+◌, ◌*◌, ◌≤◌, eqb, length, Ok};
 ghost use Rattle.plan.specs.Range.{most_ports};
-ghost use Rattle.plan.specs.Flag.{is_set};
 ghost use Rattle.fabric.specs.Flow.{most_depth};
 ghost use Rattle.side.specs.Columns.{transposed};
 ghost use Rattle.crossbar.specs.State.{store_fits};
-ghost use Rattle.crossbar.specs.Takeover.{takeover_of};
+ghost use Rattle.crossbar.specs.Takeover.{takes_over, takeover_of};
 ghost use Rattle.crossbar.specs.Step.{verdict_by, Judged, Steps, IdlesOnly};
 
 use crate::state::{SlotReply, Switch};
@@ -50,13 +49,6 @@ fn fits_if_valid(valid: bool, n: usize, depth: usize, len: usize) -> bool
     valid && store_fits(n, depth, len)
 }
 
-// Whether a waiting plan takes over.
-fn takes_over(slot: u32, waits: u8) -> bool
-    ensures { result ≡ (eqb slot 0 && is_set waits) }
-{
-    slot == 0 && waits != 0
-}
-
 // The list that rules the slot; a waiting one need not have taken over yet.
 fn ruling<'a>(running: &'a [u16], waiting: &'a [u16], takeover: bool) -> &'a [u16]
     ensures { result.now ≡ cond takeover waiting.now running.now }
@@ -93,6 +85,13 @@ fn next_slot(n: usize, slot: u32, t: u32) -> u32
 }
 
 impl Switch {
+    // Whether a waiting plan takes over.
+    fn takes_over(&self) -> bool
+        ensures { result ≡ takes_over self.now }
+    {
+        self.slot == 0 && self.has_waiting()
+    }
+
     // The slot in which n ports choose, by what was judged of 12 and 7: none do where the step is refused by then. 13 is
     // judged by the boards' choices; where it refuses, no port acts.
     #[tactic(auto, using(crate::proofs::StepLaws::few_choose, plan::proofs::LineLaws::square_small))]
@@ -108,7 +107,7 @@ impl Switch {
         let running = &rates[..n * n];
         let waiting = &waiting_rates[..n * n];
         let t = self.running.frame;
-        let takeover = takes_over(self.slot, self.waits);
+        let takeover = self.takes_over();
         let fabric = self.fabric;
         let boards = serve_all(fabric.boards, running, waiting, takeover, n, t, self.slot);
         let room = room_for_all(fabric.queues, fabric.crosspoints, boards.choices, n);

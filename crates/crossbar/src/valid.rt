@@ -38,8 +38,7 @@ impl Switch {
         let waiting = self.waiting;
         let fabric = self.fabric;
         let n = running.ports;
-        let waits = self.waits != 0;
-        plans_valid(&running, &waiting, waits)
+        plans_valid(&running, &waiting, self.has_waiting())
             && depth_in_range(self.depth)
             && self.slot < running.frame
             && flows_valid(fabric.queues, fabric.crosspoints, n, self.depth)

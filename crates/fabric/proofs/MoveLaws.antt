@@ -12,8 +12,7 @@ use borrow.Author.Tests.{eqb-true, eqb-false, ne_eqb, ltb-true, lt-ltb}
 use Rattle.std.specs.Prelude.{Option, Some, None}
 use Rattle.plan.specs.Range.{most_ports, most_flows}
 use Rattle.plan.specs.Lines.{flow_of}
-use Rattle.plan.specs.Below.{all_below}
-use Rattle.plan.proofs.BelowLaws.{all_holds, all_intro, all_fails}
+use Rattle.plan.proofs.BelowLaws.{all_holds, all_intro}
 use Rattle.plan.proofs.LineLaws.{flow_below, flow_one}
 use Rattle.multiplexer.specs.declared.Multiplexer.{Multiplexer}
 use Rattle.fabric.specs.Flow.{crosspoint_depth, no_queue, no_point, cell_place}
@@ -52,29 +51,12 @@ move_serves depth j cell q x =
 pub room_left : (q : Queue) (x : Crosspoint) → room_in q x ≡ true → (q.count ≡ 0 → ⊥) → x.count < crosspoint_depth
 room_left q x e h = ltb-true x.count crosspoint_depth (rw (ne_eqb q.count 0 h) at e)
 
--- Whether the boards below m leave room, one board more, and all of them.
+-- Whether the boards leave room.
 module _ (n : ℕ) (choices : List (Option ℕ)) (queues : List Queue) (points : List Crosspoint) where
-  unfoldable pub room_below : ℕ → Bool
-  room_below m = all_below (λ p. room_for n queues points p (choice_at choices p)) m
-
   room_of : (m j k : ℕ) → choice_at choices m ≡ Some j → k ≡ flow_of n m j
       → room_in (get_or queues k no_queue) (get_or points k no_point) ≡ room_for n queues points m (choice_at choices m)
   unfolding room_for
   room_of m j k c e = rw (c, e)
-
-  pub room_idle_step : (m : ℕ) → room_below m ≡ true → choice_at choices m ≡ None → room_below (m + 1) ≡ true
-  unfolding room_below room_for
-  room_idle_step m h c = rw (add-one, h, c)
-
-  pub room_flow_step : (m j k : ℕ) → room_below m ≡ true → choice_at choices m ≡ Some j → k ≡ flow_of n m j
-      → room_in (get_or queues k no_queue) (get_or points k no_point) ≡ true → room_below (m + 1) ≡ true
-  unfolding room_below
-  room_flow_step m j k h c e r = rw (add-one, h, sym (room_of m j k c e)) r
-
-  pub room_fails : (m j k : ℕ) → m < n → choice_at choices m ≡ Some j → k ≡ flow_of n m j
-      → room_in (get_or queues k no_queue) (get_or points k no_point) ≡ false → room_for_all n choices queues points ≡ false
-  unfolding room_for_all
-  room_fails m j k l c e r = all_fails _ n m l (sym (room_of m j k c e) ∙ r)
 
   -- the test passes where each crosspoint that is served has a place left
   pub room_enough : ((i j : ℕ) → i < n → choice_at choices i ≡ Some j → (get_or points (flow_of n i j) no_point).count < crosspoint_depth) → room_for_all n choices queues points ≡ true
@@ -91,18 +73,10 @@ module _ (n : ℕ) (choices : List (Option ℕ)) (queues : List Queue) (points :
   unfolding room_for_all
   room_at h i j l c = room_of i j (flow_of n i j) c refl ∙ all_holds (λ p. room_for n queues points p (choice_at choices p)) n h i l
 
-  pub room_start : room_below 0 ≡ true
-  unfolding room_below
-  room_start = refl
-
   -- where no board acts
   pub room_none : room_for_all 0 choices queues points ≡ true
   unfolding room_for_all
   room_none = refl
-
-  pub room_all : (m : ℕ) → m ≡ n → room_below m ≡ room_for_all n choices queues points
-  unfolding room_below room_for_all
-  room_all m e = rw e
 
 -- flow (i, j)'s move in the queues and crosspoints given
 abbrev pub flow_move : ℕ → ℕ → List ℕ → List Queue → List Crosspoint → ℕ → ℕ → Move

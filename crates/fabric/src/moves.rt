@@ -27,15 +27,13 @@ pub fn room_for_all(
     requires { CanChoose n choices }
     ensures { result ≡ room_for_all n choices queues crosspoints }
 {
-    for (i, choice) in choices[..n].iter().enumerate() {
-        if let Some(j) = choice {
-            let k = flow_place(n, i, usize::from(*j));
-            if !crosspoints[k].has_room(queues[k]) {
-                return false;
-            }
+    (0..n).all(|i| match choices[i] {
+        None => true,
+        Some(j) => {
+            let k = flow_place(n, i, usize::from(j));
+            crosspoints[k].has_room(queues[k])
         }
-    }
-    true
+    })
 }
 
 // The oldest cell of a queue goes to the crosspoint of head j, if there is one.

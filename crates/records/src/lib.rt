@@ -14,19 +14,20 @@ use plan::range::MOST_PORTS;
 use plan::{Plan, no_plan};
 use refusal::Refusal;
 
-// The kinds of a port's answer.
-const IDLE: u32 = 0;
+// The kinds of a port's answer, numbered as in include/gambyre.h.
+enum PortKind {
+    Idle = 0,
+    Empty = 1,
+    Moved = 2,
+}
 
-const EMPTY: u32 = 1;
+// The kinds of a choice, numbered likewise.
+enum ChoiceKind {
+    NoFlow = 0,
+    Flow = 1,
+}
 
-const MOVED: u32 = 2;
-
-// The kinds of a choice.
-const NO_FLOW: u32 = 0;
-
-const FLOW: u32 = 1;
-
-// A port's answer. What a kind does not have is 0.
+// A port's answer. What a kind does not have is 0. The kind stays a number, here and in a choice: a caller may hand over any.
 #[repr(C)]
 #[derive(Clone, Copy)]
 pub struct PortRecord {
@@ -74,7 +75,7 @@ pub struct CoverRecord {
     pub most: Stretch,
 }
 
-// Not a `From`: of u32 and Result neither is this crate's.
+// refusal's number with the 32 bits of an enum of C. Not a `From`: of u32 and Result neither is this crate's.
 pub fn verdict_number(verdict: Result<(), Refusal>) -> u32
     ensures { result ≡ verdict_number_of verdict }
 {
@@ -85,9 +86,9 @@ fn kind_of(answer: Answer) -> u32
     ensures { result ≡ kind_of answer }
 {
     match answer {
-        Answer::Idle => IDLE,
-        Answer::Empty(_) => EMPTY,
-        Answer::Moved(_, _) => MOVED,
+        Answer::Idle => PortKind::Idle as u32,
+        Answer::Empty(_) => PortKind::Empty as u32,
+        Answer::Moved(_, _) => PortKind::Moved as u32,
     }
 }
 
@@ -140,24 +141,23 @@ impl From<Option<usize>> for ChoiceRecord {
     fn from(choice: Option<usize>) -> ChoiceRecord {
         match choice {
             None => ChoiceRecord {
-                kind: NO_FLOW,
+                kind: ChoiceKind::NoFlow as u32,
                 flow: 0,
             },
-            Some(flow) => ChoiceRecord { kind: FLOW, flow },
+            Some(flow) => ChoiceRecord {
+                kind: ChoiceKind::Flow as u32,
+                flow,
+            },
         }
     }
 }
 
-// The choice that a caller hands over; every kind but NO_FLOW is a flow.
+// The choice that a caller hands over; every kind but that of no flow is a flow.
 impl From<ChoiceRecord> for Option<usize> {
     ghost from_gives = { λ choice r. r ≡ choice_in choice };
 
     fn from(choice: ChoiceRecord) -> Option<usize> {
-        if choice.kind == NO_FLOW {
-            None
-        } else {
-            Some(choice.flow)
-        }
+        (choice.kind != ChoiceKind::NoFlow as u32).then_some(choice.flow)
     }
 }
 

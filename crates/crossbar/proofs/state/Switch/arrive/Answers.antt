@@ -40,8 +40,8 @@ offset_bounds-store-k c = let k = known _ _ c.arrive_verdict-verdict.ensures c.i
 pub overflow_add-from : goal.overflow_add-from
 overflow_add-from c = let k = known _ _ c.arrive_verdict-verdict.ensures c.in-Ok.is c.flow_place-k.ensures.is in omega (arith, c.from.ensures, c.from-2.ensures, k.once_around, k.deep)
 
-pub overflow_add-state : goal.overflow_add-state
-overflow_add-state c = let k = known _ _ c.arrive_verdict-verdict.ensures c.in-Ok.is c.flow_place-k.ensures.is in omega (arith, k.room, k.deep)
+pub overflow_add-self : goal.overflow_add-self
+overflow_add-self c = let k = known _ _ c.arrive_verdict-verdict.ensures c.in-Ok.is c.flow_place-k.ensures.is in omega (arith, k.room, k.deep)
 
 pub returns : goal.returns
 returns c = arrive_accepted _ _ _ _ _ c.arrive_verdict-verdict.ensures c.in-Ok.is c.flow_place-k.ensures.is (rw (c.from.ensures, c.from-2.ensures) at c.ring_place-next.ensures.0)
