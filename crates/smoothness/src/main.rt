@@ -7,7 +7,7 @@ use console::failure::fail;
 use console::program::print_of;
 use planfile::LONGEST_FILE;
 
-mod bound;
+mod flow;
 mod line;
 mod printout;
 mod record;
