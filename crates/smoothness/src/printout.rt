@@ -69,7 +69,8 @@ fn head_lines(out: &mut Text, rates: &[u16], head: Head)
     flows_lines(out, &recorded[..3 * head.frame as usize], rates, head);
 }
 
-// The lines of all heads.
+// The lines of all heads. By number: a loop over `chunks_exact` asks for N of 1 or more, and is proved by what its iterator has
+// left, which takes five answers in place of two.
 #[tactic(auto, using(console::proofs::TextBelowLaws::put_below))]
 fn heads_lines(out: &mut Text, plan: Plan)
     requires { (plan.ports ≤ most_ports) × (1 ≤ plan.frame) × (plan.frame ≤ most_slots) × (array_string_len out.old + length (text_below (head_lines_of plan) plan.ports) ≤ printout_room) }
