@@ -1,26 +1,14 @@
 // What a program says of an input or an output that failed.
-use std::fmt;
 use std::io::Error;
 
 // What failed, and why.
 #[derive(Debug, Drop)]
-pub enum Failure {
-    Input(Error),
-    Output(Error),
+pub struct Failure {
+    pub what: &'static str,
+    pub error: Error,
 }
 
-impl fmt::Display for Failure {
-    fn fmt<W: fmt::Write>(&self, f: &mut fmt::Formatter<W>) -> fmt::Result {
-        match self {
-            Failure::Input(error) => write!(f, "standard input: {error}"),
-            Failure::Output(error) => write!(f, "standard output: {error}"),
-        }
-    }
-}
-
-// A line on standard error, if there was a failure.
-pub fn report(rt: &impl Eprint, done: Result<(), Failure>) {
-    if let Err(failure) = done {
-        let _ = eprintln!(rt; "{failure}");
-    }
+// A line on standard error: what failed, a colon and why.
+pub fn fail(rt: &impl Eprint, what: &str, error: Error) {
+    let _ = eprintln!(rt; "{what}: {error}");
 }

@@ -2,11 +2,12 @@
 #![tactic(auto)]
 
 use crate::printout::printout;
-use console::failure::{Failure, report};
+use console::failure::fail;
 
 mod printout;
 
 fn main(rt: HostRuntime) {
-    let done = rt.write_all(printout().as_bytes());
-    report(&rt, done.map_err(Failure::Output));
+    if let Err(error) = rt.write_all(printout().as_bytes()) {
+        fail(&rt, "standard output", error);
+    }
 }

@@ -34,7 +34,7 @@ fn line(out: &mut Text, value: u64)
     out.push_str("\n");
 }
 
-// The lines of rate a.
+// The lines of rate a. From 0, as `text_below` counts: a loop over `1..=a` takes one answer more.
 #[tactic(auto, using(console::proofs::TextBelowLaws::put_below), unfolding(crate::specs::Printout::rate_lines_of))]
 fn rate_lines(out: &mut Text, a: u32)
     requires { (1 ≤ a) × (a ≤ table_frame) × (array_string_len out.old + length (rate_lines_of a) ≤ printout_room) }
@@ -45,7 +45,7 @@ fn rate_lines(out: &mut Text, a: u32)
     }
 }
 
-// The lines of all rates.
+// The lines of all rates, from 0 likewise.
 #[tactic(auto, using(console::proofs::TextBelowLaws::put_below), unfolding(crate::specs::Printout::printout_of))]
 pub fn printout() -> Text
     ensures { result.bytes ≡ printout_of }

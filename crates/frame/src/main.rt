@@ -2,7 +2,7 @@
 #![tactic(auto)]
 
 use crate::printout::printout;
-use console::failure::report;
+use console::failure::fail;
 use console::program::print_of;
 use planfile::LONGEST_FILE;
 
@@ -16,6 +16,7 @@ const MOST_INPUT: usize = LONGEST_FILE + 1;
 
 fn main(rt: HostRuntime) {
     let mut room = [0u8; MOST_INPUT];
-    let done = print_of(&mut rt.stdin(), &mut room, &mut rt.stdout(), printout);
-    report(&rt, done);
+    if let Err(failure) = print_of(&mut rt.stdin(), &mut room, &mut rt.stdout(), printout) {
+        fail(&rt, failure.what, failure.error);
+    }
 }

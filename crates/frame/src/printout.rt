@@ -8,7 +8,7 @@ use crate::line::{header, slot_line};
 use crate::room::Text;
 use console::text::refusal_line;
 use crossbar::start::start;
-use crossbar::state::Switch;
+use crossbar::state::{Reply, SlotReply, Switch};
 use plan::Plan;
 use plan::range::MOST_FLOWS;
 use planfile::read;
@@ -20,15 +20,17 @@ fn slot_lines(out: &mut Text, fresh: Switch, store: &[u32], n: usize, frame: u32
 {
     let mut state = fresh;
     for slot in 0..frame {
-        let done = state.step(store);
-        let verdict = done.verdict;
+        let SlotReply {
+            state: next,
+            verdict,
+            moves,
+            sends,
+        } = state.step(store);
         let Ok(()) = verdict else {
             return refusal_line(out, verdict);
         };
-        let boards = done.moves;
-        let heads = done.sends;
-        slot_line(out, slot, boards, heads, n);
-        state = done.state;
+        slot_line(out, slot, moves, sends, n);
+        state = next;
     }
 }
 
@@ -38,16 +40,13 @@ fn frame_printout(out: &mut Text, plan: Plan)
     ensures { out.new.bytes ≡ out.old.bytes ++ frame_printout_of plan }
 {
     let n = plan.ports;
-    let rates = plan.rates;
     let zeros = [0u32; MOST_FLOWS];
     let store = &zeros[..n * n];
-    let started = start(n, plan.frame, &rates[..n * n], 1, store);
-    let verdict = started.verdict;
+    let Reply { state, verdict } = start(n, plan.frame, &plan.rates[..n * n], 1, store);
     let Ok(()) = verdict else {
         return refusal_line(out, verdict);
     };
     header(out, n);
-    let state = started.state;
     slot_lines(out, state, store, n, plan.frame);
 }
 
@@ -56,13 +55,9 @@ pub fn printout(file: &[u8]) -> Text
     ensures { result.bytes ≡ printout_of file.now }
 {
     let mut out = Text::new();
-    let plan = match read(file) {
-        Ok(plan) => plan,
-        Err(refusal) => {
-            refusal_line(&mut out, Err(refusal));
-            return out;
-        }
-    };
-    frame_printout(&mut out, plan);
+    match read(file) {
+        Ok(plan) => frame_printout(&mut out, plan),
+        Err(refusal) => refusal_line(&mut out, Err(refusal)),
+    }
     out
 }

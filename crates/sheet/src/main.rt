@@ -7,7 +7,7 @@ ghost use Rattle.sheet.specs.Sheet.{sheet_of};
 use crate::argument::read_argument;
 use crate::plan_file::plan_file;
 use arrayvec::{ArrayString, ArrayVec};
-use console::failure::{Failure, report};
+use console::failure::{Failure, fail};
 use console::input::read_input;
 use console::text::{REFUSAL_ROOM, refusal_line};
 use planfile::LONGEST_FILE;
@@ -19,7 +19,7 @@ use std::io::{self, Read};
 mod argument;
 mod plan_file;
 
-// Linux hands no longer argument over.
+// The longest argument that Linux hands over.
 const LONGEST_ARGUMENT: usize = 131072;
 
 // One byte more than the longest text has: the bytes past these change nothing (proofs/SheetLaws.antt).
@@ -73,8 +73,15 @@ fn read_sheet<R: Read>(
 
 // Standard input to standard output.
 fn convert(rt: &HostRuntime, n: u32, t: u32) -> Result<(), Failure> {
-    match read_sheet(&mut rt.stdin(), n, t).map_err(Failure::Input)? {
-        Ok(file) => rt.write_all(&file).map_err(Failure::Output),
+    let sheet = read_sheet(&mut rt.stdin(), n, t).map_err(|error| Failure {
+        what: "standard input",
+        error,
+    })?;
+    match sheet {
+        Ok(file) => rt.write_all(&file).map_err(|error| Failure {
+            what: "standard output",
+            error,
+        }),
         Err(refusal) => {
             refuse(rt, Err(refusal));
             Ok(())
@@ -83,8 +90,10 @@ fn convert(rt: &HostRuntime, n: u32, t: u32) -> Result<(), Failure> {
 }
 
 fn main(rt: HostRuntime) {
-    match arguments(&rt) {
-        Some((n, t)) => report(&rt, convert(&rt, n, t)),
-        None => usage(&rt),
+    let Some((n, t)) = arguments(&rt) else {
+        return usage(&rt);
+    };
+    if let Err(failure) = convert(&rt, n, t) {
+        fail(&rt, failure.what, failure.error);
     }
 }

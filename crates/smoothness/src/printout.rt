@@ -7,7 +7,8 @@ ghost use Rattle.console.specs.TextBelow.{text_below};
 ghost use Rattle.smoothness.specs.Printout.{stretches, counts, flow_lines_of, head_lines_of, printout_of, printout_room};
 ghost use Rattle.smoothness.specs.Head.{flows_lines_of, rates_lines_of};
 
-use crate::line::{Flow, line};
+use crate::flow::{Flow, Head};
+use crate::line::line;
 use crate::record::{RECORD_ROOM, record_frames};
 use crate::room::{STRETCHES, Text};
 use console::text::refusal_line;
@@ -30,10 +31,10 @@ fn counts(lengths: [u32; STRETCHES], k: usize) -> bool
 // The lines of a flow whose head has this record.
 #[tactic(auto, using(console::proofs::TextBelowLaws::put_below), unfolding(crate::specs::Printout::flow_lines_of))]
 fn flow_lines(out: &mut Text, recorded: &[u16], flow: Flow)
-    requires { (1 ≤ flow.frame) × (flow.board < most_ports) × (array_string_len out.old + length (flow_lines_of recorded.now flow.head flow.board flow.rate flow.frame) ≤ printout_room) × (flow.frame ≤ length recorded.now) × (length recorded.now ≤ most_record) }
-    ensures { out.new.bytes ≡ out.old.bytes ++ flow_lines_of recorded.now flow.head flow.board flow.rate flow.frame }
+    requires { (flow.board < most_ports) × (array_string_len out.old + length (flow_lines_of recorded.now flow.head.number flow.board flow.rate flow.head.frame) ≤ printout_room) × (flow.head.frame ≤ length recorded.now) × (length recorded.now ≤ most_record) }
+    ensures { out.new.bytes ≡ out.old.bytes ++ flow_lines_of recorded.now flow.head.number flow.board flow.rate flow.head.frame }
 {
-    let frame = flow.frame;
+    let frame = flow.head.frame;
     let lengths = [1, frame / 4, frame / 2, frame];
     for (k, &l) in lengths.iter().enumerate() {
         if !counts(lengths, k) {
@@ -46,48 +47,46 @@ fn flow_lines(out: &mut Text, recorded: &[u16], flow: Flow)
 
 // The lines of all flows of a head, which has these rates and this record.
 #[tactic(auto, using(console::proofs::TextBelowLaws::put_below))]
-fn flows_lines(out: &mut Text, recorded: &[u16], rates: &[u16], head: usize, frame: u32)
-    requires { (1 ≤ frame) × (length rates.now ≤ most_ports) × (array_string_len out.old + length (flows_lines_of recorded.now rates.now head frame) ≤ printout_room) × (frame ≤ length recorded.now) × (length recorded.now ≤ most_record) }
-    ensures { out.new.bytes ≡ out.old.bytes ++ flows_lines_of recorded.now rates.now head frame }
+fn flows_lines(out: &mut Text, recorded: &[u16], rates: &[u16], head: Head)
+    requires { (length rates.now ≤ most_ports) × (array_string_len out.old + length (flows_lines_of recorded.now rates.now head.number head.frame) ≤ printout_room) × (head.frame ≤ length recorded.now) × (length recorded.now ≤ most_record) }
+    ensures { out.new.bytes ≡ out.old.bytes ++ flows_lines_of recorded.now rates.now head.number head.frame }
 {
     for (board, &rate) in rates.iter().enumerate() {
         if rate == 0 {
             continue;
         }
-        let flow = Flow {
-            head,
-            board,
-            rate,
-            frame,
-        };
-        flow_lines(out, recorded, flow);
+        flow_lines(out, recorded, Flow { head, board, rate });
     }
 }
 
 // The lines of a head, whose record is made once for all of its flows.
-fn head_lines(out: &mut Text, rates: &[u16], head: usize, frame: u32)
-    requires { (1 ≤ frame) × (frame ≤ most_slots) × (length rates.now ≤ most_ports) × (array_string_len out.old + length (rates_lines_of rates.now head frame) ≤ printout_room) }
-    ensures { out.new.bytes ≡ out.old.bytes ++ rates_lines_of rates.now head frame }
+fn head_lines(out: &mut Text, rates: &[u16], head: Head)
+    requires { (head.frame ≤ most_slots) × (length rates.now ≤ most_ports) × (array_string_len out.old + length (rates_lines_of rates.now head.number head.frame) ≤ printout_room) }
+    ensures { out.new.bytes ≡ out.old.bytes ++ rates_lines_of rates.now head.number head.frame }
 {
     let mut recorded = [0u16; RECORD_ROOM];
-    record_frames(rates, frame, &mut recorded);
-    flows_lines(out, &recorded[..3 * frame as usize], rates, head, frame);
+    record_frames(rates, head.frame, &mut recorded);
+    flows_lines(out, &recorded[..3 * head.frame as usize], rates, head);
 }
 
-// The lines of all heads.
+// The lines of all heads. By number: a loop over `chunks_exact` asks for N of 1 or more, and is proved by what its iterator has
+// left, which takes five answers in place of two.
 #[tactic(auto, using(console::proofs::TextBelowLaws::put_below))]
 fn heads_lines(out: &mut Text, plan: Plan)
     requires { (plan.ports ≤ most_ports) × (1 ≤ plan.frame) × (plan.frame ≤ most_slots) × (array_string_len out.old + length (text_below (head_lines_of plan) plan.ports) ≤ printout_room) }
     ensures { out.new.bytes ≡ out.old.bytes ++ text_below (head_lines_of plan) plan.ports }
 {
     let n = plan.ports;
-    let rates = plan.rates;
     let mut array = [0u16; MOST_FLOWS];
-    transpose(&rates[..n * n], n, &mut array);
+    transpose(&plan.rates[..n * n], n, &mut array);
     let columns = &array[..n * n];
     for j in 0..n {
         let column = desk_view(columns, columns, n, j, false);
-        head_lines(out, column, j, plan.frame);
+        let head = Head {
+            number: j,
+            frame: plan.frame,
+        };
+        head_lines(out, column, head);
     }
 }
 

@@ -31,7 +31,7 @@ fn next_slot(slot: u32, frame: u32) -> u32
 
 // What a head with these rates serves in three frames, at the start of the list.
 pub fn record_frames(rates: &[u16], frame: u32, recorded: &mut [u16])
-    requires { (1 ≤ frame) × (3 * frame ≤ length recorded.old) }
+    requires { 3 * frame ≤ length recorded.old }
     ensures { take (3 * frame) recorded.new ≡ three_frames_of rates.now frame }
 {
     let mut port = Multiplexer {

@@ -16,5 +16,5 @@ frame_printout-requires c =
     let read = sym c.read.ensures ∙ c.in-Ok.is in
     (few_ports _ _ read, omega (arith, ap length c.new-out.ensures, ap length (by_plan _ _ read), printout_short c.args.file.now))
 
-pub returns : goal.returns
-returns c = rw (by_plan _ _ (sym c.read.ensures ∙ c.in-Ok.is), c.frame_printout.ensures, c.new-out.ensures) refl
+pub returns-in-Ok : goal.returns-in-Ok
+returns-in-Ok c = rw (by_plan _ _ (sym c.read.ensures ∙ c.in-Ok.is), c.frame_printout.ensures, c.new-out.ensures) refl

@@ -9,12 +9,12 @@ loop-slot-init c = begun_start _ (lines_start _ _ _ _)
 
 pub refusal_line-requires : goal.refusal_line-requires
 refusal_line-requires c =
-    omega (arith, begun_room c.loop-slot.invariant ((by_step _ _ _ _ _ _ c.loop-slot-test.true c.step-done.ensures.defined).refused c.in_default.is), c.requires.1)
+    omega (arith, begun_room c.loop-slot.invariant ((by_step _ _ _ _ _ _ c.loop-slot-test.true c.step-verdict.ensures.defined).refused c.in_default.is), c.requires.1)
 
 pub returns-in_default : goal.returns-in_default
 returns-in_default c =
     begun_last c.loop-slot.invariant
-    ((by_step _ _ _ _ _ _ c.loop-slot-test.true c.step-done.ensures.defined).refused c.in_default.is)
+    ((by_step _ _ _ _ _ _ c.loop-slot-test.true c.step-verdict.ensures.defined).refused c.in_default.is)
     c.refusal_line.ensures
 
 pub slot_line-requires : goal.slot_line-requires
@@ -23,9 +23,9 @@ slot_line-requires c = (
   omega (
     arith,
     begun_room_next c.loop-slot.invariant
-        (slot_line_of c.loop-slot.slot c.step-done.result.moves c.step-done.result.sends c.args.n)
+        (slot_line_of c.loop-slot.slot c.step-verdict.result.moves c.step-verdict.result.sends c.args.n)
         _
-        ((by_step _ _ _ _ _ _ c.loop-slot-test.true c.step-done.ensures.defined).accepted c.in-Ok.is),
+        ((by_step _ _ _ _ _ _ c.loop-slot-test.true c.step-verdict.ensures.defined).accepted c.in-Ok.is),
     c.requires.1,
   ),
 )
@@ -33,8 +33,8 @@ slot_line-requires c = (
 pub loop-slot-preserved : goal.loop-slot-preserved
 loop-slot-preserved c =
     begun_next c.loop-slot.invariant
-    (slot_line_of c.loop-slot.slot c.step-done.result.moves c.step-done.result.sends c.args.n)
-    ((by_step _ _ _ _ _ _ c.loop-slot-test.true c.step-done.ensures.defined).accepted c.in-Ok.is)
+    (slot_line_of c.loop-slot.slot c.step-verdict.result.moves c.step-verdict.result.sends c.args.n)
+    ((by_step _ _ _ _ _ _ c.loop-slot-test.true c.step-verdict.ensures.defined).accepted c.in-Ok.is)
     c.slot_line.ensures
 
 pub returns : goal.returns

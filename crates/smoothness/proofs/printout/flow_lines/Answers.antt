@@ -7,10 +7,10 @@ use Rattle.smoothness.proofs.StretchLaws.{length_at, counts_some}
 use Rattle.smoothness.proofs.printout.flow_lines.Goals as goal
 use Rattle.smoothness.proofs.printout.flow_lines.Goals.{After-cover, After-unwrap-measured}
 
-measured : (c : After-cover) → c.cover.result ≡ Ok (measured_of c.args.recorded.now c.args.flow.board (length_at c.args.flow.frame c.loop-k.k))
+measured : (c : After-cover) → c.cover.result ≡ Ok (measured_of c.args.recorded.now c.args.flow.board (length_at c.args.flow.head.frame c.loop-k.k))
 measured c =
     let f = c.args.flow in
-    length_measured c.args.recorded.now f.head f.board f.rate f.frame c.requires.0 c.requires.3 c.requires.4 c.loop-k.k _ c.cover.ensures
+    length_measured c.args.recorded.now f.head.number f.board f.rate f.head.frame f.head.some_slot c.requires.2 c.requires.3 c.loop-k.k _ c.cover.ensures
 
 pub unwrap-measured-requires : goal.unwrap-measured-requires
 unwrap-measured-requires c = rw (measured c) refl
@@ -19,11 +19,11 @@ unwrap-measured-requires c = rw (measured c) refl
 counted : (c : After-unwrap-measured) →
     let f = c.args.flow in
     let k = c.loop-k.k in
-    (counts (stretches_of f.frame) k ≡ true)
-    × (stretch_line c.args.recorded.now f.head f.board f.rate f.frame k ≡ line_of f.head f.board f.rate (length_at f.frame k) f.frame c.unwrap-measured.result)
+    (counts (stretches_of f.head.frame) k ≡ true)
+    × (stretch_line c.args.recorded.now f.head.number f.board f.rate f.head.frame k ≡ line_of f.head.number f.board f.rate (length_at f.head.frame k) f.head.frame c.unwrap-measured.result)
 counted c =
     let f = c.args.flow in
-    let told = length_measured c.args.recorded.now f.head f.board f.rate f.frame c.requires.0 c.requires.3 c.requires.4 c.loop-k.k _ c.cover.ensures in
+    let told = length_measured c.args.recorded.now f.head.number f.board f.rate f.head.frame f.head.some_slot c.requires.2 c.requires.3 c.loop-k.k _ c.cover.ensures in
     let yes = sym c.counts.ensures ∙ c.if-not-counts.false in
     (yes, measured_stretch _ _ _ _ _ _ _ yes (sym c.unwrap-measured.ensures ∙ told))
 
@@ -35,7 +35,7 @@ pub line-requires : goal.line-requires
 unfolding flow_lines_of
 line-requires c =
     let is = counted (goal.at.line-requires c).After-unwrap-measured in
-    (counts_some _ _ is.0, c.requires.0, omega (arith, ap length is.1, below_room _ _ c.loop-k.invariant c.loop-k-test.true, c.requires.2))
+    (counts_some _ _ is.0, omega (arith, ap length is.1, below_room _ _ c.loop-k.invariant c.loop-k-test.true, c.requires.1))
 
 pub loop-k-preserved : goal.loop-k-preserved
 loop-k-preserved c =

@@ -5,4 +5,4 @@ use Rattle.smoothness.proofs.printout.flow_lines.Given as goal
 
 abbrev pub invariant-loop-k : goal.invariant-loop-k
 invariant-loop-k l =
-    l.out.bytes ≡ l.initial.out.bytes ++ text_below (stretch_line l.recorded l.flow.head l.flow.board l.flow.rate l.flow.frame) l.k
+    l.out.bytes ≡ l.initial.out.bytes ++ text_below (stretch_line l.recorded l.flow.head.number l.flow.board l.flow.rate l.flow.head.frame) l.k

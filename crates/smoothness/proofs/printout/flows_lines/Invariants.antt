@@ -5,4 +5,4 @@ use Rattle.smoothness.proofs.printout.flows_lines.Given as goal
 
 abbrev pub invariant-loop-board : goal.invariant-loop-board
 invariant-loop-board l =
-    l.out.bytes ≡ l.initial.out.bytes ++ text_below (board_lines_of l.recorded l.rates l.head l.frame) l.board
+    l.out.bytes ≡ l.initial.out.bytes ++ text_below (board_lines_of l.recorded l.rates l.head.number l.head.frame) l.board

@@ -22,7 +22,6 @@ head_lines-requires c =
     let l = c.loop-j in
     let is = column (goal.at.head_lines-requires c).After-desk_view-column in
     let room = below_room (head_lines_of plan) _ l.invariant c.loop-j-test.true in (
-      c.requires.1,
       c.requires.2,
       omega (arith, ap length is, column_length (plan_rates plan) plan.ports l.j),
       omega (arith, ap length (head_by_rates plan l.j _ is), room, c.requires.3),
