@@ -55,9 +55,11 @@ pub fn printout(file: &[u8]) -> Text
     ensures { result.bytes ≡ printout_of file.now }
 {
     let mut out = Text::new();
-    match read(file) {
-        Ok(plan) => frame_printout(&mut out, plan),
-        Err(refusal) => refusal_line(&mut out, Err(refusal)),
-    }
+    let reading = read(file);
+    let Ok(plan) = reading else {
+        refusal_line(&mut out, reading.and(Ok(())));
+        return out;
+    };
+    frame_printout(&mut out, plan);
     out
 }
