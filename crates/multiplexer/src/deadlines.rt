@@ -113,6 +113,7 @@ pub struct DeadlineTable<'a> {
 }
 
 // The deadline of service number `service` of a flow with this rate, out of the table.
+// No method of DeadlineTable: `soonest` has a list, which in frames without a table needs no rule (see `best`).
 pub(crate) fn read_deadline(table: &[u8], rate: u16, service: u16) -> u8
     requires { TableRule table.now × (1 ≤ service) × (service ≤ rate) × (rate ≤ table_frame) }
     ensures { result ≡ rounded_up (service * table_frame) rate }

@@ -69,8 +69,8 @@ fn soonest_divided(rate: u16, served: u16, frame: u32, slot: u32) -> u64
     deadline
 }
 
-// The flow's deadline, or NEVER where it is not eligible: in a frame of 64 slots by the table, otherwise by the formula. Before
-// slot 64 a flow that has had all its services, or has rate 0, is not eligible, and the table has nothing of it.
+// The flow's deadline, or NEVER where it is not eligible: by the table in a frame of 64 slots, otherwise by the formula. The
+// table has nothing of a flow of rate 0, or one that has had all its services: before slot 64 neither is eligible.
 fn soonest(rate: u16, served: u16, frame: u32, slot: u32, table: &[u8]) -> u64
     requires { ReadIn frame table.now }
     ensures { Soonest rate served frame slot result }
@@ -129,8 +129,8 @@ fn one_more(count: u16, g: u16, flow: u16) -> u16
 }
 
 impl Multiplexer {
-    // The number of the flow that `choose` chooses, or NO_FLOW, with the table lent as a list, which may be any in frames that
-    // have none: lent as an Option, it makes a slot of 16 boards at T = 64 some 9 percent slower (docs/PERFORMANCE.md).
+    // The number of the flow that `choose` chooses, or NO_FLOW. Where the frame has no table, any list will do: with
+    // `Option<&DeadlineTable>` a slot of 16 boards at T = 64 takes 11 to 13 percent longer (docs/PERFORMANCE.md).
     fn best(self, rates: &[u16], frame: u32, slot: u32, table: &[u8]) -> u16
         requires { ReadIn frame table.now }
         ensures { choice_of result ≡ choose_of rates.now self.served frame slot }
@@ -148,7 +148,7 @@ impl Multiplexer {
         best.flow
     }
 
-    // The same, with a table that is made where the frame has one.
+    // The same with a table of its own, if the frame has one.
     fn chosen(self, rates: &[u16], frame: u32, slot: u32) -> u16
         ensures { choice_of result ≡ choose_of rates.now self.served frame slot }
     {
@@ -215,7 +215,7 @@ impl Multiplexer {
         self.after(self.chosen(rates, frame, slot), rates.len(), frame, slot)
     }
 
-    // The same with the table of deadlines lent, which the ports of a side share.
+    // The same with a lent table, which the ports of a side share.
     pub fn serve_with(self, rates: &[u16], frame: u32, slot: u32, table: DeadlineTable) -> Served
         ensures { result ≡ serve_of self rates.now frame slot }
     {
