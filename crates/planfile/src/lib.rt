@@ -35,21 +35,19 @@ fn read_rates(bytes: &[u8], n: usize, t: u32, count: usize) -> Result<Plan, Refu
 }
 
 // The plan of a file: the head's length, the mark and version, N, T, the whole length, then the sums.
-#[tactic(auto, unfolding(crate::specs::Read::read_of, crate::specs::Read::verdict_of))]
+#[tactic(auto, using(crate::proofs::LayoutLaws::marked_head, crate::proofs::LayoutLaws::head_byte), unfolding(crate::specs::Read::read_of, crate::specs::Read::verdict_of))]
 pub fn read(bytes: &[u8]) -> Result<Plan, Refusal>
     ensures { result ≡ read_of bytes.now }
 {
-    if bytes.len() < HEAD {
-        return Err(Refusal::FileLength);
-    }
-    if !is_plan_file(bytes) {
+    let head = bytes.first_chunk::<HEAD>().ok_or(Refusal::FileLength)?;
+    if !is_plan_file(head) {
         return Err(Refusal::NotPlanFile);
     }
-    let n = ports_in(bytes);
+    let n = ports_in(head);
     if !ports_in_range(n) {
         return Err(Refusal::PortsOutOfRange);
     }
-    let t = frame_in(bytes);
+    let t = frame_in(head);
     if !frame_in_range(t) {
         return Err(Refusal::FrameOutOfRange);
     }
