@@ -1,6 +1,8 @@
 // The limits of N and T, which only this file and specs/Range.antt have, and the length of a list for N ports.
 ghost use Rattle.std.specs.Prelude.{◌≡◌, ◌*◌, eqb};
-ghost use Rattle.plan.specs.Range.{ports_in_range, frame_in_range};
+ghost use Rattle.plan.specs.Range.{ports_in_range, frame_in_range, range_of};
+
+use refusal::Refusal;
 
 pub const MOST_PORTS: usize = 16;
 
@@ -22,6 +24,20 @@ pub fn frame_in_range(t: u32) -> bool
     ensures { result ≡ frame_in_range t }
 {
     (1..=MOST_SLOTS).contains(&t)
+}
+
+// N and T, with which the order of each call begins that has both.
+#[tactic(auto, unfolding(crate::specs::Range::range_of))]
+pub fn check(n: usize, t: u32) -> Result<(), Refusal>
+    ensures { result ≡ range_of n t }
+{
+    if !ports_in_range(n) {
+        return Err(Refusal::PortsOutOfRange);
+    }
+    if !frame_in_range(t) {
+        return Err(Refusal::FrameOutOfRange);
+    }
+    Ok(())
 }
 
 // Whether a list of `len` numbers is N x N long; an N whose square passes 64 bits has no such list.

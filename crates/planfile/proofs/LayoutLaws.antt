@@ -5,18 +5,26 @@ use mathlib.Core.List.{List, [], ◌∷◌, ◌++◌, append_assoc}
 use mathlib.Core.Logic.{⊎_elim}
 use native.Mathlib.Nat.{sub-zero}
 use native.Mathlib.Omega.{arith}
-use Rattle.std.proofs.lemmas.List.{take-replicate, drop-replicate}
+use Rattle.std.proofs.lemmas.List.{take-replicate, drop-replicate, get_or-take}
 use lib.ListN.{length, get_or, set, take, drop, replicate, length-append, length-replicate, get_or-replicate, get_or-eq_default}
 use lib.Seq.{take_at, set_at, get_or-append-add}
 use Rattle.plan.specs.Range.{most_ports, most_flows}
 use Rattle.plan.proofs.BelowLaws.{lt_or_le}
 use Rattle.plan.proofs.LineLaws.{square_small}
-use Rattle.planfile.specs.Layout.{rates_of, padded_to, padded}
+use Rattle.planfile.specs.Layout.{byte_at, is_marked, rates_of, padded_to, padded}
 
 pub rates_length : (file : List ℕ) (count : ℕ) → length (rates_of file count) ≡ count
 unfolding rates_of
 rates_length file zero = refl
 rates_length file (suc p) = simp length-append (omega (arith, rates_length file p))
+
+-- what the head says, the file says
+pub head_byte : (file : List ℕ) (p : ℕ) → p < 8 → byte_at (take 8 file) p ≡ byte_at file p
+head_byte file p h = get_or-take 8 file p 0 h
+
+pub marked_head : (file : List ℕ) → is_marked (take 8 file) ≡ is_marked file
+unfolding is_marked
+marked_head file = simp (head_byte file 0 (omega arith), head_byte file 1 (omega arith), head_byte file 2 (omega arith))
 
 -- one more number is written behind those that stand in the array
 pub padded_one : (size : ℕ) (list : List ℕ) (k x : ℕ) → length list ≡ k → k < size → set (padded_to size list) k x ≡ padded_to size (list ++ (x ∷ []))

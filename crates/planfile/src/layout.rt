@@ -21,25 +21,22 @@ fn word_at(bytes: &[u8], at: usize) -> u16
 
 // Whether the file begins with the mark and the version.
 #[tactic(auto, unfolding(crate::specs::Layout::is_marked))]
-pub fn is_plan_file(bytes: &[u8]) -> bool
-    requires { 8 ≤ length bytes.now }
-    ensures { result ≡ (is_marked bytes.now && eqb (version_in bytes.now) 1) }
+pub fn is_plan_file(head: &[u8; HEAD]) -> bool
+    ensures { result ≡ (is_marked head.now && eqb (version_in head.now) 1) }
 {
-    bytes.starts_with(b"LSP") && word_at(bytes, 3) == VERSION
+    head.starts_with(b"LSP") && word_at(head, 3) == VERSION
 }
 
-pub fn ports_in(bytes: &[u8]) -> usize
-    requires { 8 ≤ length bytes.now }
-    ensures { result ≡ ports_in bytes.now }
+pub fn ports_in(head: &[u8; HEAD]) -> usize
+    ensures { result ≡ ports_in head.now }
 {
-    usize::from(bytes[5])
+    usize::from(head[5])
 }
 
-pub fn frame_in(bytes: &[u8]) -> u32
-    requires { 8 ≤ length bytes.now }
-    ensures { result ≡ frame_in bytes.now }
+pub fn frame_in(head: &[u8; HEAD]) -> u32
+    ensures { result ≡ frame_in head.now }
 {
-    u32::from(word_at(bytes, 6))
+    u32::from(word_at(head, 6))
 }
 
 // The first `count` rates, and 0 in the places past them.

@@ -11,7 +11,7 @@ ghost use Rattle.planfile.specs.Read.{plan_of, read_of};
 use crate::layout::{HEAD, frame_in, is_plan_file, ports_in, rates_of};
 use plan::Plan;
 use plan::acceptance::accept;
-use plan::range::{MOST_FLOWS, frame_in_range, ports_in_range};
+use plan::range::{MOST_FLOWS, check};
 use refusal::Refusal;
 
 mod layout;
@@ -35,24 +35,17 @@ fn read_rates(bytes: &[u8], n: usize, t: u32, count: usize) -> Result<Plan, Refu
 }
 
 // The plan of a file: the head's length, the mark and version, N, T, the whole length, then the sums.
-#[tactic(auto, unfolding(crate::specs::Read::read_of, crate::specs::Read::verdict_of))]
+#[tactic(auto, using(plan::proofs::RangeLaws::range_first, crate::proofs::LayoutLaws::marked_head, crate::proofs::LayoutLaws::head_byte), unfolding(crate::specs::Read::read_of, crate::specs::Read::verdict_of))]
 pub fn read(bytes: &[u8]) -> Result<Plan, Refusal>
     ensures { result ≡ read_of bytes.now }
 {
-    if bytes.len() < HEAD {
-        return Err(Refusal::FileLength);
-    }
-    if !is_plan_file(bytes) {
+    let head = bytes.first_chunk::<HEAD>().ok_or(Refusal::FileLength)?;
+    if !is_plan_file(head) {
         return Err(Refusal::NotPlanFile);
     }
-    let n = ports_in(bytes);
-    if !ports_in_range(n) {
-        return Err(Refusal::PortsOutOfRange);
-    }
-    let t = frame_in(bytes);
-    if !frame_in_range(t) {
-        return Err(Refusal::FrameOutOfRange);
-    }
+    let n = ports_in(head);
+    let t = frame_in(head);
+    check(n, t)?;
     let count = n * n;
     if bytes.len() != HEAD + 2 * count {
         return Err(Refusal::FileLength);

@@ -9,7 +9,7 @@ ghost use Rattle.plantext.specs.Read.{values_in, judged_of, read_text_of};
 
 use crate::records::read_values;
 use plan::acceptance::accept;
-use plan::range::{MOST_FLOWS, MOST_PORTS, frame_in_range, is_square, ports_in_range};
+use plan::range::{MOST_FLOWS, MOST_PORTS, check, is_square};
 use refusal::Refusal;
 
 pub mod digit;
@@ -43,16 +43,11 @@ fn read_rates(n: usize, t: u32, text: &[u8], rates: &mut [u16]) -> Result<(), Re
 
 // Writes the rates of a text to the list, row by row, and answers whether it did: N, T, the list's length, the text's rules,
 // then the sums.
-#[tactic(auto, using(plan::proofs::RangeLaws::ports_range), unfolding(crate::specs::Read::read_text_of, crate::specs::Read::verdict_of))]
+#[tactic(auto, using(plan::proofs::RangeLaws::range_first, plan::proofs::RangeLaws::range_ports), unfolding(crate::specs::Read::read_text_of, crate::specs::Read::verdict_of))]
 pub fn read_text(n: usize, t: u32, text: &[u8], rates: &mut [u16]) -> Result<(), Refusal>
     ensures { outcome result rates.new ≡ read_text_of n t text.now rates.old }
 {
-    if !ports_in_range(n) {
-        return Err(Refusal::PortsOutOfRange);
-    }
-    if !frame_in_range(t) {
-        return Err(Refusal::FrameOutOfRange);
-    }
+    check(n, t)?;
     if !is_square(n, rates.len()) {
         return Err(Refusal::ListLength);
     }
