@@ -22,6 +22,6 @@ ports_in_range n = leb 1 n && leb n most_ports
 unfoldable pub frame_in_range : ℕ → Bool
 frame_in_range t = leb 1 t && leb t most_slots
 
--- N first, then T
+-- N first, then T: so they stand in the order of each call that has both
 unfoldable pub range_of : ℕ → ℕ → Verdict
 range_of n t = refuse_if (not (ports_in_range n)) PortsOutOfRange (refuse_if (not (frame_in_range t)) FrameOutOfRange (Ok tt))

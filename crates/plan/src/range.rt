@@ -26,7 +26,7 @@ pub fn frame_in_range(t: u32) -> bool
     (1..=MOST_SLOTS).contains(&t)
 }
 
-// N and T, with which the order of each call begins that has both.
+// N, and then T: so they stand in the order of each call that has both.
 #[tactic(auto, unfolding(crate::specs::Range::range_of))]
 pub fn check(n: usize, t: u32) -> Result<(), Refusal>
     ensures { result ≡ range_of n t }

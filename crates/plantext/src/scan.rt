@@ -14,7 +14,8 @@ pub fn skip<'a>(text: &'a [u8], mark: &[u8]) -> Option<&'a [u8]>
     text.strip_prefix(mark)
 }
 
-// The number of as many digits as there are, five at most; no number without a digit.
+// The number of as many digits as there are, five at most, and none without a digit. By number: the count tells whether there
+// was one.
 fn read_digits(text: &[u8]) -> Option<(u32, &[u8])>
     ensures { option_map (λ digits. (digits.0, digits.1.now)) result ≡ values.some_digit (values.digits_from 5 0 0 text.now) }
 {
