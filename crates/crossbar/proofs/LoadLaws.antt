@@ -17,7 +17,7 @@ use Rattle.plan.proofs.AcceptLaws.{accepted, accepts}
 use Rattle.planpair.proofs.RateLaws.{overlaid_twice}
 use Rattle.crossbar.specs.Valid.{valid_of}
 use Rattle.crossbar.specs.State.{has_waiting}
-use Rattle.planpair.specs.Rates.{plan_over}
+use Rattle.crossbar.specs.Start.{plan_over}
 use Rattle.plan.specs.declared.Plan.{Plan}
 use Rattle.crossbar.specs.Load.{with_plans, load_verdict, CanLoad, with_waiting, load_of}
 use Rattle.crossbar.specs.FormerLoad.{former_verdict, former_load, AsBefore}

@@ -15,8 +15,8 @@ use Rattle.plan.specs.declared.Plan.{Plan}
 use Rattle.plan.proofs.AcceptLaws.{accepted, accepts}
 use Rattle.crossbar.specs.State.{depth_in_range, store_fits}
 use Rattle.plan.specs.NoPlan.{no_plan}
-use Rattle.crossbar.specs.Start.{fresh_with, plan_of, start_verdict, CanStart, start_of}
-use Rattle.planpair.specs.Rates.{plan_rates, plan_over}
+use Rattle.crossbar.specs.Start.{plan_over, fresh_with, plan_of, start_verdict, CanStart, start_of}
+use Rattle.planpair.specs.Rates.{plan_rates}
 use Rattle.crossbar.specs.declared.state.Switch.{Switch}
 use Rattle.crossbar.specs.declared.state.Reply.{Reply}
 use Rattle.planpair.proofs.RateLaws.{laid_rates}

@@ -7,7 +7,7 @@ use Rattle.refusal.specs.Verdict.{Verdict}
 use Rattle.plan.specs.Accept.{accept_of, IsPlan}
 use Rattle.plan.specs.declared.Plan.{Plan}
 use Rattle.crossbar.specs.Valid.{valid_of}
-use Rattle.planpair.specs.Rates.{plan_over}
+use Rattle.crossbar.specs.Start.{plan_over}
 use Rattle.crossbar.specs.declared.state.Switch.{Switch}
 use Rattle.crossbar.specs.declared.state.Reply.{Reply}
 

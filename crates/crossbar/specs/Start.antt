@@ -11,7 +11,7 @@ use Rattle.plan.specs.declared.Plan.{Plan}
 use Rattle.multiplexer.specs.declared.Multiplexer.{Multiplexer}
 use Rattle.fabric.specs.Flow.{most_depth, crosspoint_depth}
 use Rattle.crossbar.specs.State.{depth_in_range, store_fits}
-use Rattle.planpair.specs.Rates.{plan_over}
+use Rattle.planpair.specs.Rates.{overlaid}
 use Rattle.fabric.specs.declared.flow.Queue.{Queue}
 use Rattle.fabric.specs.declared.flow.Crosspoint.{Crosspoint}
 use Rattle.crossbar.specs.declared.state.Switch.{Switch}
@@ -43,6 +43,10 @@ fresh_with plan depth =
             heads = replicate most_ports rested_port;
           };
     }
+
+-- a plan in whose array stands what the old one has past its rates
+abbrev pub plan_over : Plan → ℕ → ℕ → List ℕ → Plan
+plan_over old n t rates = record { ports = n; frame = t; rates = overlaid old.rates rates (n * n) }
 
 abbrev pub plan_of : ℕ → ℕ → List ℕ → Plan
 plan_of n t rates = plan_over no_plan n t rates

@@ -3,6 +3,7 @@
 
 mod arrive;
 mod load;
+mod plans;
 pub mod start;
 pub mod state;
 mod step;

@@ -2,9 +2,9 @@
 ghost use Rattle.std.specs.Prelude.{◌≡◌};
 ghost use Rattle.crossbar.specs.Load.{load_verdict, Loads};
 
+use crate::plans::plan_over;
 use crate::state::{Reply, Switch};
 use plan::acceptance::accept;
-use planpair::rates::plan_over;
 use refusal::Refusal;
 
 impl Switch {

@@ -2,6 +2,7 @@
 ghost use Rattle.std.specs.Prelude.{◌≡◌};
 ghost use Rattle.crossbar.specs.Start.{fresh_with, start_verdict, Starts};
 
+use crate::plans::plan_over;
 use crate::state::{Reply, Switch};
 use crate::valid::{depth_in_range, store_fits};
 use fabric::Fabric;
@@ -10,7 +11,6 @@ use multiplexer::Multiplexer;
 use plan::acceptance::accept;
 use plan::range::{MOST_FLOWS, MOST_PORTS};
 use plan::{Plan, no_plan};
-use planpair::rates::plan_over;
 use refusal::Refusal;
 
 // A state that runs a plan, with no cell and no service.

@@ -1,5 +1,5 @@
 // One slot of the switch. In a step that is refused no port acts: the slot's phases are the same, for 0 ports. With one way
-// through them the compiler copies the state no more than it has to.
+// through them the compiler copies the state no more than it has to (docs/PERFORMANCE.md).
 ghost use Rattle.std.specs.Prelude.{true, cond, ◌&&◌, ◌≡◌, ◌+◌, ◌*◌, ◌≤◌, eqb, length, Ok};
 ghost use Rattle.plan.specs.Range.{most_ports};
 ghost use Rattle.fabric.specs.Flow.{most_depth};
@@ -70,7 +70,8 @@ fn columns_of<'a>(
     transpose(ruling(running, waiting, takeover), n, columns);
 }
 
-// The slot after one in which n ports acted: the frame's next, or the first of the next frame.
+// The slot after one in which n ports acted: the frame's next, or the first of the next frame. Not shared with smoothness: one
+// function below both would need a definition of its own, and a law to each of theirs.
 fn next_slot(n: usize, slot: u32, t: u32) -> u32
     requires { 1 ≤ n → slot + 1 ≤ 4294967295 }
     ensures { result ≡ cond (eqb n 0) slot (cond (eqb (slot + 1) t) 0 (slot + 1)) }
@@ -108,6 +109,7 @@ impl Switch {
         let waiting = &waiting_rates[..n * n];
         let t = self.running.frame;
         let takeover = self.takes_over();
+        // for its short name: the compiler makes no copy of it
         let fabric = self.fabric;
         let boards = serve_all(fabric.boards, running, waiting, takeover, n, t, self.slot);
         let room = room_for_all(fabric.queues, fabric.crosspoints, boards.choices, n);

@@ -36,16 +36,15 @@ impl Switch {
     {
         let running = self.running;
         let waiting = self.waiting;
-        let fabric = self.fabric;
         let n = running.ports;
         plans_valid(&running, &waiting, self.has_waiting())
             && depth_in_range(self.depth)
             && self.slot < running.frame
-            && flows_valid(fabric.queues, fabric.crosspoints, n, self.depth)
+            && flows_valid(self.fabric.queues, self.fabric.crosspoints, n, self.depth)
             && counts_valid(
                 &running.rates[..n * n],
-                fabric.boards,
-                fabric.heads,
+                self.fabric.boards,
+                self.fabric.heads,
                 n,
                 self.slot,
             )

@@ -1,6 +1,7 @@
 // The limits of the switch, tried from both sides: case C11 of the scope, then the small example of each row of its
 // table "What is sent back" beside a neighbour that is accepted, then texts beside those that keep to the rules, and records
-// beside those that are measured. The example of row 9, a load while a plan waits, is accepted since request L5.
+// beside those that are measured. The example of row 9, a load while a plan waits, is accepted: number 9 is given to no
+// refusal.
 #![tactic(auto)]
 
 use crate::meters::record;

@@ -8,10 +8,6 @@ unfoldable pub overlaid : List ℕ → List ℕ → ℕ → List ℕ
 overlaid array list zero = array
 overlaid array list (suc k) = set (overlaid array list k) k (get_or list k 0)
 
--- a plan in whose array stands what the old one has past its rates
-abbrev pub plan_over : Plan → ℕ → ℕ → List ℕ → Plan
-plan_over old n t rates = record { ports = n; frame = t; rates = overlaid old.rates rates (n * n) }
-
 -- the N × N rates of a plan
 abbrev pub plan_rates : Plan → List ℕ
 plan_rates p = take (p.ports * p.ports) p.rates

@@ -2,11 +2,11 @@
 -- ports below N in the state are 0."
 use Rattle.std.specs.Prelude.{◌*◌, []}
 use Rattle.plan.specs.declared.Plan.{Plan}
-use Rattle.planpair.specs.Rates.{overlaid, plan_over}
+use Rattle.planpair.specs.Rates.{overlaid}
 
 -- a plan with the N, T and rates of another
 abbrev pub replaced : Plan → Plan → Plan
-replaced p q = plan_over p q.ports q.frame q.rates
+replaced p q = record { ports = q.ports; frame = q.frame; rates = overlaid p.rates q.rates (q.ports * q.ports) }
 
 -- a plan whose N, T and rates are 0
 abbrev pub cleared : Plan → Plan

@@ -1,9 +1,8 @@
 // Lists of rates in the arrays of a plan.
-ghost use Rattle.std.specs.Prelude.{◌≡◌, ◌*◌, ◌≤◌, length};
-ghost use Rattle.plan.specs.Range.{most_ports, most_flows};
-ghost use Rattle.planpair.specs.Rates.{overlaid, plan_over};
+ghost use Rattle.std.specs.Prelude.{◌≡◌, ◌≤◌, length};
+ghost use Rattle.plan.specs.Range.{most_flows};
+ghost use Rattle.planpair.specs.Rates.{overlaid};
 
-use plan::Plan;
 use plan::range::MOST_FLOWS;
 
 // The array with its first `count` places taken from the list.
@@ -14,16 +13,4 @@ pub fn overlay(mut array: [u16; MOST_FLOWS], list: &[u16], count: usize) -> [u16
 {
     array[..count].copy_from_slice(&list[..count]);
     array
-}
-
-// The plan with these rates, in whose array stands what the old one has past them.
-pub fn plan_over(old: Plan, n: usize, t: u32, rates: &[u16]) -> Plan
-    requires { (n ≤ most_ports) × (n * n ≤ length rates.now) }
-    ensures { result ≡ plan_over old n t rates.now }
-{
-    Plan {
-        ports: n,
-        frame: t,
-        rates: overlay(old.rates, rates, n * n),
-    }
 }

@@ -3,7 +3,7 @@ ghost use Rattle.std.specs.Prelude.{◌≡◌, ◌≤◌};
 ghost use Rattle.plan.specs.Range.{most_ports};
 ghost use Rattle.planpair.specs.Takeover.{replaced, cleared};
 
-use crate::rates::{overlay, plan_over};
+use crate::rates::overlay;
 use plan::Plan;
 use plan::range::MOST_FLOWS;
 
@@ -12,7 +12,12 @@ pub fn replaced(old: Plan, taken: Plan) -> Plan
     requires { taken.ports ≤ most_ports }
     ensures { result ≡ replaced old taken }
 {
-    plan_over(old, taken.ports, taken.frame, &taken.rates)
+    let n = taken.ports;
+    Plan {
+        ports: n,
+        frame: taken.frame,
+        rates: overlay(old.rates, &taken.rates, n * n),
+    }
 }
 
 // A plan whose N, T and rates are 0.

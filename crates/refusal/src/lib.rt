@@ -4,8 +4,8 @@
 ghost use Rattle.std.specs.Prelude.{◌≡◌};
 ghost use Rattle.refusal.specs.Number.{number_of, verdict_number_of};
 
-// A case for each row of the scope's table "What is sent back", and for each number that a change request adds. Row 9 has none:
-// since request L5 a load is accepted while a plan waits.
+// A case for each row of the scope's table "What is sent back", and for each number that a change request adds. Number 9 is
+// given to no refusal: a load is accepted while a plan waits.
 #[derive(Clone, Copy, Debug, PartialEq, Eq)]
 pub enum Refusal {
     // N is outside 1 to MOST_PORTS

@@ -1,5 +1,4 @@
 use mathlib.Core.Path.{sym, ◌∙◌}
-use native.Mathlib.Omega.{arith}
 use Rattle.crossbar.proofs.LoadLaws.{can_load, load_accepted, load_refused}
 use Rattle.crossbar.proofs.state.Switch.load.Goals as goal
 
@@ -7,7 +6,7 @@ pub returns-in_default : goal.returns-in_default
 returns-in_default c = load_refused _ _ _ _ c.load_verdict-verdict.ensures c.in_default.is
 
 pub plan_over-self-requires : goal.plan_over-self-requires
-plan_over-self-requires c = let p = (can_load _ _ _ _ (sym c.load_verdict-verdict.ensures ∙ c.in-Ok.is)).plan in (p.few_ports, omega (arith, p.square))
+plan_over-self-requires c = (can_load _ _ _ _ (sym c.load_verdict-verdict.ensures ∙ c.in-Ok.is)).plan
 
 pub returns : goal.returns
 returns c = load_accepted _ _ _ _ c.load_verdict-verdict.ensures c.in-Ok.is c.plan_over-self.ensures
