@@ -10,7 +10,7 @@ use refusal::Refusal;
 // The slots of the longest record.
 const MOST_RECORD: usize = 65535;
 
-// The entry of a slot that serves nobody.
+// The entry of a slot that serves nobody: a number, because it is C's (include/gambyre.h, GAMBYRE_IDLE_SLOT).
 pub const IDLE_SLOT: u16 = 65535;
 
 // How many services a stretch has, and the place of its first slot.
@@ -47,6 +47,7 @@ fn first_services(recorded: &[u16], flow: u16, l: usize) -> usize
 }
 
 // From place to place one slot enters the stretch and one leaves it, whatever l is. Of equal stretches the first one is kept.
+// The slot that leaves is taken by its place: a loop over a `zip` is proved by what its iterators have left.
 fn measure(recorded: &[u16], flow: u16, l: usize) -> Measured
     requires { (l ≤ length recorded.now) × (length recorded.now ≤ most_record) }
     ensures { Measures recorded.now flow l result }
@@ -61,12 +62,12 @@ fn measure(recorded: &[u16], flow: u16, l: usize) -> Measured
             services,
             place: place + 1,
         };
-        least = if services < least.services {
-            here
-        } else {
-            least
-        };
-        most = if most.services < services { here } else { most };
+        if services < least.services {
+            least = here;
+        }
+        if most.services < services {
+            most = here;
+        }
     }
     Measured { least, most }
 }
