@@ -12,7 +12,7 @@ fn transpose_row(rates: &[u16], n: usize, j: usize, array: &mut [u16; MOST_FLOWS
     requires { (n ≤ most_ports) × (j < n) × (length rates.now ≡ n * n) }
     ensures { array.new ≡ transposed_row rates.now n j array.old n }
 {
-    // by number: row j's number i is column j's in row i, in two lists
+    // by number: number i of the array's row j is number j of the rates' row i
     for i in 0..n {
         array[flow_place(n, j, i)] = rates[flow_place(n, i, j)];
     }
