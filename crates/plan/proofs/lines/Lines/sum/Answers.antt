@@ -3,6 +3,7 @@ use Rattle.std.proofs.lemmas.Iterator.{YieldsList-from_map, YieldsList-from_rang
 use Rattle.std.proofs.lemmas.Iterator.Adapters.{fits_from_length, at_most_from_yields_List}
 use Rattle.std.proofs.lemmas.Iterator.Consumers.{sum_from_yields_List}
 use Rattle.std.proofs.lemmas.List.FromFn.{length-range_with_len}
+use Rattle.plan.specs.Range.{most_ports}
 use Rattle.plan.specs.Lines.{line_sum}
 use Rattle.plan.proofs.BelowLaws.{sum_by_range}
 use Rattle.plan.proofs.lines.Lines.sum.Goals as goal
@@ -11,7 +12,7 @@ use Rattle.plan.proofs.lines.Lines.sum.Goals as goal
 pub sum-requires-clause-fits : goal.sum-requires-clause-fits
 sum-requires-clause-fits c =
     let n = c.args.self.now.n in
-    fits_from_length _ _ 16 _ (at_most_from_yields_List (YieldsList-from_range 0 n n c.map.ensures.source (omega arith)) (omega (arith, length-range_with_len 0 n)))
+    fits_from_length _ _ most_ports _ (at_most_from_yields_List (YieldsList-from_range 0 n n c.map.ensures.source (omega arith)) (omega (arith, length-range_with_len 0 n)))
     c.map.ensures.closure (omega arith) (λ m r q k. search (rules, arith))
 
 pub returns : goal.returns
