@@ -1,5 +1,5 @@
-// Text in a lent buffer of fixed room, to which each function appends. `write!` doesn't serve: its contract says what an `Ok` has
-// written, and nowhere that there is one, and no text here can fail.
+// Text in a lent buffer of fixed room, to which each function appends. It asks for room for just its own text, which no type says.
+// `write!` doesn't serve: its contract says what an `Ok` has written, and nowhere that there is one, and no text here can fail.
 ghost use Rattle.std.specs.Prelude.{◌≡◌, ◌+◌, ◌≤◌, ◌++◌, length};
 ghost use Rattle.arrayvec.specs.ArrayString.{array_string_len};
 ghost use Rattle.console.specs.Text.{decimal_of, field_of};
@@ -29,6 +29,7 @@ pub fn field<const ROOM: usize>(out: &mut ArrayString<ROOM>, value: u64)
     number(out, value);
 }
 
+// Of any verdict: a refusal alone would ask more of callers.
 #[tactic(auto, unfolding(crate::specs::Refused::refusal_line_of))]
 pub fn refusal_line<const ROOM: usize>(out: &mut ArrayString<ROOM>, verdict: Result<(), Refusal>)
     requires { array_string_len out.old + length (refusal_line_of verdict) ≤ ROOM }

@@ -20,7 +20,8 @@ fn row(rates: &[u16], n: usize, i: usize) -> &[u16]
     &rates[i * n..][..n]
 }
 
-// The row of input i in the list that rules the coming slot, as a part of that list.
+// The row of input i in the list that rules the coming slot, as a part of that list; where there is none the empty part, as desk_of
+// and C have it.
 #[tactic(auto, using(crate::proofs::DeskLaws::has_row_lem), unfolding(crate::specs::Desk::desk_of))]
 pub fn desk_view<'a>(
     running: &'a [u16],

@@ -4,6 +4,8 @@ ghost use Rattle.plan.specs.Range.{ports_in_range, frame_in_range, range_of};
 
 use refusal::Refusal;
 
+// N and T stay numbers, with their bounds in clauses: so C and a state hand them over, and every loop ends at one
+// (docs/DECISIONS.md).
 pub const MOST_PORTS: usize = 16;
 
 // The flows between that many inputs and outputs.

@@ -12,7 +12,7 @@ use plan::lines::flow_place;
 use plan::range::MOST_PORTS;
 use refusal::Refusal;
 
-// Whether none of the n sums is above t.
+// Whether none of the n sums is above t. `Lines::fit` adds numbers up for the same question; here the sums are kept.
 fn sums_fit(sums: &[u32; MOST_PORTS], n: usize, t: u32) -> bool
     requires { n ≤ most_ports }
     ensures { result ≡ within_frame (λ k. get_or sums.now k 0) n t }
@@ -20,7 +20,7 @@ fn sums_fit(sums: &[u32; MOST_PORTS], n: usize, t: u32) -> bool
     sums[..n].iter().all(|sum| *sum <= t)
 }
 
-// The column of row i on diagonal k.
+// The column of row i on diagonal k: a rule of its own, though `diagonal_in` has the same remainder.
 #[tactic(auto, using(crate::proofs::DiagonalLaws::column_below), unfolding(crate::specs::Boost::column_on))]
 fn column_on(n: usize, k: usize, i: usize) -> usize
     requires { (n ≤ most_ports) × (k < n) × (i < n) }

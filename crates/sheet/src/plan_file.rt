@@ -10,7 +10,7 @@ use planfile::writing::write;
 use plantext::read_text;
 use refusal::Refusal;
 
-// The flows between N inputs and N outputs; none for an N that reading refuses.
+// The flows between N inputs and N outputs; none for an N that reading refuses, which looks at N in its own order.
 fn flows(n: usize) -> usize
     ensures { result ≡ cond (ports_in_range n) (n * n) 0 }
 {
