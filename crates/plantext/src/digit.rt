@@ -1,4 +1,4 @@
-// Decimal digits in ASCII.
+// Decimal digits in ASCII: what the library says of a byte, under the names that the rules and the program `sheet` have for it.
 ghost use Rattle.std.specs.Prelude.{true, ◌≡◌, ◌<◌};
 ghost use Rattle.plantext.specs.Bytes.{is_digit, digit_of};
 
