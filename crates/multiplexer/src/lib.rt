@@ -60,7 +60,7 @@ fn soonest_divided(rate: u16, served: u16, frame: u32, slot: u32) -> u64
     // by hand: with the library's `div_ceil` a slot of 16 boards takes 3 to 6 percent longer (docs/PERFORMANCE.md)
     let d = a.max(1);
     let deadline = (done + u64::from(frame) + (d - 1)) / d;
-    // two tests and no `||`, whose second half would stand behind a jump
+    // one test for each reason: the flow is early, or it has no rate
     if u64::from(slot) * a < done {
         return NEVER;
     }
