@@ -44,6 +44,7 @@ impl Switch {
         let depth = self.depth;
         let k = flow_place(self.running.ports, i, j);
         let queue = self.fabric.queues[k];
+        // the place behind the newest cell, where `oldest_place` is that of the oldest
         let next = ring_place(usize::from(queue.place) + usize::from(queue.count), depth);
         store[k * depth + next] = cell;
         self.fabric.queues[k].count += 1;

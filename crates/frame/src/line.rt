@@ -15,6 +15,7 @@ fn names(out: &mut Text, side: &str, n: usize)
     requires { array_string_len out.old + length (names_of side.now n) ≤ printout_room }
     ensures { out.new.bytes ≡ out.old.bytes ++ names_of side.now n }
 {
+    // by number, which is what is printed
     for port in 0..n {
         out.push_str(side);
         number(out, port as u64);

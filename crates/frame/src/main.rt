@@ -14,6 +14,7 @@ mod room;
 // (proofs/PrintoutLaws.antt).
 const MOST_INPUT: usize = LONGEST_FILE + 1;
 
+// All that the programs that print have in common is `print_of`; the room and the printout are this one's.
 fn main(rt: HostRuntime) {
     let mut room = [0u8; MOST_INPUT];
     if let Err(failure) = print_of(&mut rt.stdin(), &mut room, &mut rt.stdout(), printout) {

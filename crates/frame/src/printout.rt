@@ -55,6 +55,7 @@ pub fn printout(file: &[u8]) -> Text
     ensures { result.bytes ≡ printout_of file.now }
 {
     let mut out = Text::new();
+    // by `let .. else`, as the scope has it for the reader's answer and for start's
     let reading = read(file);
     let Ok(plan) = reading else {
         refusal_line(&mut out, reading.and(Ok(())));

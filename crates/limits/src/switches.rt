@@ -50,6 +50,7 @@ pub fn output(rt: &impl Print, j: usize) {
 // The reply to the last of some arrivals at a switch of one port.
 fn fill(fresh: Reply, store: &mut [u32], count: usize) -> Reply {
     let mut reply = fresh;
+    // by count: each arrival is the same
     for _ in 0..count {
         reply = reply.state.arrive(store, 0, 0, 7);
     }

@@ -10,7 +10,7 @@ use plan::desk::desk_view;
 use plan::range::MOST_PORTS;
 
 // The ports of one side after a slot, and the port that each one serves in it, if any: by a byte, so that the list is short
-// to copy.
+// to copy. Two lists, since they go to different phases.
 #[derive(Clone, Copy)]
 pub struct Side {
     pub ports: [Multiplexer; MOST_PORTS],
