@@ -1,7 +1,8 @@
 #!/usr/bin/env bash
 # The header, the examples and tests/header.c in C and C++, with gcc, and with clang where it is: the header compiles alone
 # in each version of the languages, each example prints what is stored, and tests/header.c finds no difference; once more
-# with the address and undefined-behaviour sanitizers. Usage: tests/c.sh, after 'bash build.sh gambyre'.
+# with the address and undefined-behaviour sanitizers. The archive needs no name from outside but memcpy and memset.
+# Usage: tests/c.sh, after 'bash build.sh gambyre'.
 set -euo pipefail
 cd "$(dirname "$0")/.."
 archive=target/staticlib/libgambyre.a
@@ -52,6 +53,10 @@ stops() {
 
 [ -e "$archive" ] || fail "no archive: 'bash build.sh gambyre' builds it"
 mkdir -p "$out"
+
+# So README and the header say.
+outside=$(nm -u "$archive" | awk '$1 == "U" { print $2 }' | sort -u | tr '\n' ' ')
+[ "$outside" = "memcpy memset " ] || fail "the archive needs from outside: $outside"
 
 # Each field's comment in the header begins with the field's offset.
 awk '

@@ -24,6 +24,7 @@ need "package gcc" gcc
 need "package g++" g++
 need "package rustc of Debian 13, or rustup.rs" rustc
 need "package pkg-config" pkg-config
+need "package binutils" nm
 need "package mawk" awk
 need "package sed" sed
 need "package grep" grep

@@ -1,5 +1,5 @@
--- Numbers as text.
-use Rattle.std.specs.Prelude.{ℕ, zero, suc, ◌+◌, ◌/◌, ◌%◌, cond, List, [], ◌∷◌, ◌++◌, ltb}
+-- Numbers as text, and text that is written into a lent buffer.
+use Rattle.std.specs.Prelude.{ℕ, zero, suc, ◌+◌, ◌/◌, ◌%◌, ◌≤◌, cond, List, [], ◌∷◌, ◌++◌, ◌≡◌, ltb, length, take, drop}
 
 -- the ASCII code of a digit
 abbrev digit : ℕ → ℕ
@@ -17,3 +17,14 @@ decimal_of n = digits_of 20 n
 -- a number with the space that parts it from the field before
 abbrev pub field_of : ℕ → List ℕ
 field_of value = 32 ∷ decimal_of value
+
+-- For the code: a buffer has room for a text behind its first `at` bytes.
+pub record HasRoom (buffer : List ℕ) (at : ℕ) (text : List ℕ) : Type 0 where
+  pub enough : at + length text ≤ length buffer
+
+-- For the code: `text` was written into a buffer behind its first `at` bytes, r is the place behind it, and from there on
+-- the buffer is as it was.
+pub record Written (before : List ℕ) (at : ℕ) (text after : List ℕ) (r : ℕ) : Type 0 where
+  pub place : r ≡ at + length text
+  pub bytes : take r after ≡ take at before ++ text
+  pub kept : drop r after ≡ drop r before

@@ -1,41 +1,34 @@
-// Text in a lent buffer of fixed room, to which each function appends. It asks for room for just its own text, which no type says.
-// `write!` doesn't serve: its contract says what an `Ok` has written, and nowhere that there is one, and no text here can fail.
-ghost use Rattle.std.specs.Prelude.{◌≡◌, ◌+◌, ◌≤◌, ◌++◌, length};
-ghost use Rattle.arrayvec.specs.ArrayString.{array_string_len};
-ghost use Rattle.console.specs.Text.{decimal_of, field_of};
+// Text in a lent buffer. Each function writes into it from the place `at` and answers the place behind.
+ghost use Rattle.console.specs.Text.{decimal_of, HasRoom, Written};
 ghost use Rattle.console.specs.Refused.{refusal_line_of};
 
-use arrayvec::ArrayString;
 use itoa::Buffer;
 use refusal::{Refusal, verdict_number};
 
 // Room for the line of a refusal: the word and a space, a number of 64 bits, LF.
 pub const REFUSAL_ROOM: usize = 8 + 20 + 1;
 
-#[tactic(auto, using(crate::proofs::DigitLaws::decimal_is))]
-pub fn number<const ROOM: usize>(out: &mut ArrayString<ROOM>, value: u64)
-    requires { array_string_len out.old + length (decimal_of value) ≤ ROOM }
-    ensures { out.new.bytes ≡ out.old.bytes ++ decimal_of value }
+pub fn put(out: &mut [u8], at: usize, text: &[u8]) -> usize
+    requires { HasRoom out.old at text.now }
+    ensures { Written out.old at text.now out.new result }
 {
-    out.push_str(Buffer::new().format(value));
+    let end = at + text.len();
+    out[at..end].copy_from_slice(text);
+    end
 }
 
-// A number behind the space that parts it from the field before.
-pub fn field<const ROOM: usize>(out: &mut ArrayString<ROOM>, value: u64)
-    requires { array_string_len out.old + length (field_of value) ≤ ROOM }
-    ensures { out.new.bytes ≡ out.old.bytes ++ field_of value }
+pub fn number(out: &mut [u8], at: usize, value: u64) -> usize
+    requires { HasRoom out.old at (decimal_of value) }
+    ensures { Written out.old at (decimal_of value) out.new result }
 {
-    out.push_str(" ");
-    number(out, value);
+    put(out, at, Buffer::new().format(value).as_bytes())
 }
 
-// Of any verdict: a refusal alone would ask more of callers.
-#[tactic(auto, unfolding(crate::specs::Refused::refusal_line_of))]
-pub fn refusal_line<const ROOM: usize>(out: &mut ArrayString<ROOM>, verdict: Result<(), Refusal>)
-    requires { array_string_len out.old + length (refusal_line_of verdict) ≤ ROOM }
-    ensures { out.new.bytes ≡ out.old.bytes ++ refusal_line_of verdict }
+pub fn refusal_line(out: &mut [u8], at: usize, verdict: Result<(), Refusal>) -> usize
+    requires { HasRoom out.old at (refusal_line_of verdict) }
+    ensures { Written out.old at (refusal_line_of verdict) out.new result }
 {
-    out.push_str("refused ");
-    number(out, u64::from(verdict_number(verdict)));
-    out.push_str("\n");
+    let number_at = put(out, at, b"refused ");
+    let end = number(out, number_at, u64::from(verdict_number(verdict)));
+    put(out, end, b"\n")
 }

@@ -5,7 +5,7 @@ ghost use Rattle.plan.specs.Range.{most_ports};
 ghost use Rattle.frame.specs.Printout.{names_of, choice_of, side_choices_of, header_of, slot_line_of, printout_room};
 
 use crate::room::Text;
-use console::text::{field, number};
+use console::append::{field, number};
 use fabric::flow::Answer;
 use plan::range::MOST_PORTS;
 

@@ -6,7 +6,7 @@ ghost use Rattle.frame.specs.Printout.{slot_lines_of, frame_printout_of, printou
 
 use crate::line::{header, slot_line};
 use crate::room::Text;
-use console::text::refusal_line;
+use console::append::refusal_line;
 use crossbar::start::start;
 use crossbar::state::{Reply, SlotReply, Switch};
 use plan::Plan;
@@ -50,17 +50,15 @@ fn frame_printout(out: &mut Text, plan: Plan)
     slot_lines(out, state, store, n, plan.frame);
 }
 
-// What is printed of a plan file.
-pub fn printout(file: &[u8]) -> Text
-    ensures { result.bytes ≡ printout_of file.now }
+// Puts what is printed of a plan file in place of what the text has.
+pub fn printout(file: &[u8], out: &mut Text)
+    ensures { out.new.bytes ≡ printout_of file.now }
 {
-    let mut out = Text::new();
+    out.clear();
     // by `let .. else`, as the scope has it for the reader's answer and for start's
     let reading = read(file);
     let Ok(plan) = reading else {
-        refusal_line(&mut out, reading.and(Ok(())));
-        return out;
+        return refusal_line(out, reading.and(Ok(())));
     };
-    frame_printout(&mut out, plan);
-    out
+    frame_printout(out, plan);
 }

@@ -13,6 +13,7 @@ ghost use Rattle.gambyre.specs.Written.{numbered, outcome_record, view_record};
 
 use plan::acceptance::accept;
 use plan::desk::desk_view;
+use plan::lists::copy;
 use planfile::read;
 use plantext::read_text;
 use records::{ReadingRecord, verdict_number};
@@ -32,7 +33,7 @@ fn copy_row(row: &[u16], out: &mut [u16]) -> usize
     ensures { numbered result out.new ≡ view_record row.now out.old }
 {
     let count = row.len().min(out.len());
-    out[..count].copy_from_slice(&row[..count]);
+    copy(&row[..count], &mut out[..count]);
     row.len()
 }
 

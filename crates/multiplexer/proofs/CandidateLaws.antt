@@ -11,19 +11,19 @@ use borrow.Author.Tests.{ltb-true, ltb-false, lt-ltb, le-ltb}
 use Rattle.std.specs.Prelude.{Option, Some, None}
 use Rattle.multiplexer.specs.Choose.{eligible, deadline, rate_at, eligible_at, deadline_at, goes_before_choice, better}
 use Rattle.multiplexer.specs.Candidate.{never, most_rate, rank_of, Soonest, or_flow}
-use Rattle.multiplexer.proofs.RoundLaws.{quotient_rounded, deadline_small}
+use Rattle.multiplexer.proofs.RoundLaws.{quotient_rounded}
 use Rattle.multiplexer.proofs.RankLaws.{rank_tells, rank_eligible, rank_never}
 use Rattle.multiplexer.proofs.NumberLaws.{number_of}
 use Rattle.multiplexer.proofs.ChoiceLaws.{is_eligible, ineligible}
 use Rattle.multiplexer.specs.declared.Candidate.{Candidate}
 
 -- what the tests of a flow make of it
-module _ (a k T t : ℕ) (rate_16 : a < 65536) (count_16 : k < 65536) (frame_32 : T < 4294967296) where
+module _ (a k T t : ℕ) (told_apart : deadline a k T < never) (fits : a ≤ most_rate) where
   pub not_soon : (a ≡ 0) ⊎ (t * a < k * T) → Soonest a k T t never
-  not_soon h = record { is = rw (ineligible a k T t h) refl; told_apart = deadline_small a k T rate_16 count_16 frame_32; fits = omega arith }
+  not_soon h = record { is = rw (ineligible a k T t h) refl; told_apart = told_apart; fits = fits }
 
   pub soon : 0 < a → k * T ≤ t * a → (r : ℕ) → r ≡ deadline a k T → Soonest a k T t r
-  soon pos may r e = record { is = e ∙ (rw (is_eligible a k T t pos may) refl); told_apart = deadline_small a k T rate_16 count_16 frame_32; fits = omega arith }
+  soon pos may r e = record { is = e ∙ (rw (is_eligible a k T t pos may) refl); told_apart = told_apart; fits = fits }
 
   pub some_time : 0 < a → k * T ≤ t * a → (y d r : ℕ) → y ≡ k * T + T + (d - 1) → d ≡ a → r ≡ y / d → Soonest a k T t r
   some_time pos may y d r due by q =

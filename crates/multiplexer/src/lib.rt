@@ -192,7 +192,10 @@ impl Multiplexer {
         ensures { result ≡ end_frame_of self n }
     {
         let mut served = self.served;
-        served[..n.min(MOST_PORTS)].fill(0);
+        // not by `fill`, which stores the last count by itself: a processor stalls where all are read at a time after that
+        for count in &mut served[..n.min(MOST_PORTS)] {
+            *count = 0;
+        }
         Multiplexer { served }
     }
 

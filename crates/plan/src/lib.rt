@@ -9,6 +9,7 @@ use crate::range::MOST_FLOWS;
 pub mod acceptance;
 pub mod desk;
 pub mod lines;
+pub mod lists;
 pub mod range;
 
 // N, T and N x N rates, row by row; the places past N x N are not part of the plan.

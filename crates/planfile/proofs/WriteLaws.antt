@@ -31,6 +31,9 @@ head_length : (n t : ℕ) → length (head_of n t) ≡ 8
 unfolding head_of
 head_length n t = refl
 
+pub head_room_lem : (n t : ℕ) → length (head_of n t) ≤ longest_file
+head_room_lem n t = omega (arith, head_length n t)
+
 rate_bytes_length : (rates : List ℕ) (count : ℕ) → length (rate_bytes rates count) ≡ 2 * count
 unfolding rate_bytes
 rate_bytes_length rates zero = refl

@@ -1,11 +1,12 @@
 -- Lists of rates in the arrays of a plan: what stands where, and that a plan's rates are the list laid over its array.
-use Prim.Native.Nat.{ℕ, zero, suc, ◌*◌, ◌<◌, ◌≤◌}
+use Prim.Native.Nat.{ℕ, zero, suc, ◌+◌, ◌*◌, ◌<◌, ◌≤◌}
 use mathlib.Core.Path.{◌≡◌, refl, sym, ◌∙◌}
 use mathlib.Core.List.{List, []}
 use mathlib.Core.Logic.{⊎_elim}
+use native.Mathlib.Numerals.{add-one}
 use native.Mathlib.Omega.{arith}
 use mathlib.Core.List.{◌++◌}
-use lib.ListN.{length, get_or, take, drop, replicate, length-set}
+use lib.ListN.{length, get_or, set, take, drop, replicate, length-set}
 use Rattle.std.proofs.lemmas.Grind.{common_steps, elements}
 use lib.Seq.{get_or-set_same, get_or-set_other, get_or-take, length-take-le, ext_get_or}
 use Rattle.plan.specs.Range.{most_flows}
@@ -18,6 +19,11 @@ pub overlaid_length : (array list : List ℕ) (count : ℕ) → length (overlaid
 unfolding overlaid
 overlaid_length array list zero = refl
 overlaid_length array list (suc k) = length-set (overlaid array list k) k (get_or list k 0) ∙ overlaid_length array list k
+
+-- one place more
+pub overlaid_next : (array list : List ℕ) (k : ℕ) (f : List ℕ) → f ≡ overlaid array list k → set f k (get_or list k 0) ≡ overlaid array list (k + 1)
+unfolding overlaid
+overlaid_next array list k f e = rw (add-one, e)
 
 -- from count up, the array's number
 overlaid_above : (array list : List ℕ) (count k : ℕ) → count ≤ k → get_or (overlaid array list count) k 0 ≡ get_or array k 0

@@ -46,3 +46,8 @@ module _ (p q : Plan) (waits : Bool) where
       go : (b : Bool) → waits ≡ b → (plan_valid p && (not waits || (plan_valid q && same_ports p q))) ≡ true
       go true w = simp (plan_is_valid p hp, plan_is_valid q (hq w), w, eq-eqb _ _ (ports w), eq-eqb _ _ (frame w))
       go false w = simp (plan_is_valid p hp, w)
+
+  -- where all but the last test has passed
+  pub frames_left : plan_valid p ≡ true → not waits ≡ false → plan_valid q ≡ true → p.ports ≡ q.ports → eqb p.frame q.frame ≡ plans_valid p q waits
+  unfolding plans_valid
+  frames_left a w b e = simp (a, w, b, eq-eqb p.ports q.ports e)

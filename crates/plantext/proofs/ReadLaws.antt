@@ -12,7 +12,7 @@ use Rattle.std.specs.Prelude.{Option, None, Some, is_some, unwrap_or, Ok, Err}
 use lib.Seq.{length-take-le, take_all}
 use borrow.Author.Tests.{not-false}
 use Rattle.refusal.specs.Chain.{refuse_if}
-use Rattle.refusal.specs.Outcome.{outcome}
+use Rattle.refusal.specs.Outcome.{outcome, written}
 use Rattle.refusal.specs.declared.Refusal.TheVariants.{PortsOutOfRange, FrameOutOfRange, ListLength, RowAboveFrame, ColumnAboveFrame, NotPlanText}
 use Rattle.refusal.proofs.ChainLaws.{refuse_passed, refuse_ext}
 use Rattle.plan.specs.Lines.{row_sum, column_sum, is_square}
@@ -23,9 +23,16 @@ use Rattle.plan.proofs.BelowLaws.{lt_or_le}
 use Rattle.plan.proofs.LineLaws.{square_small}
 use Rattle.plan.proofs.RangeLaws.{ports_range}
 use Rattle.plantext.specs.Values.{values_of}
-use Rattle.plantext.specs.Read.{is_text, values_in, verdict_of, read_text_of, longest_text, most_text}
+use Rattle.plantext.specs.Read.{is_text, values_in, judged_of, verdict_of, read_text_of, longest_text, most_text}
 use Rattle.plantext.proofs.TextLaws.{same_rules}
 use Rattle.plantext.proofs.LengthLaws.{text_short, text_counted}
+
+-- what the values of a text decide
+pub none_judged : (n t : ℕ) (text rates : List ℕ) → values_of n text ≡ None → written (judged_of n t text) (values_in n text) rates ≡ outcome (Err NotPlanText) rates
+none_judged n t text rates e = rw e refl
+
+pub some_judged : (n t : ℕ) (text rates values : List ℕ) → values_of n text ≡ Some values → written (judged_of n t text) (values_in n text) rates ≡ written (accept_of n t values) values rates
+some_judged n t text rates values e = rw e refl
 
 -- a text that keeps to the rules has N × N values
 values_counted : (n : ℕ) (text : List ℕ) → 1 ≤ n → is_text n text ≡ true → length (values_in n text) ≡ n * n

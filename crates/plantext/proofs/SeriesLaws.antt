@@ -1,23 +1,20 @@
 -- For the code, which takes marks, digits and items one by one: what one of them makes of the rules.
-use Prim.Native.Nat.{ℕ, zero, suc, ◌+◌, ◌*◌, ◌-◌, ◌^◌, ◌<◌, ◌≤◌}
+use Prim.Native.Nat.{ℕ, zero, suc, ◌+◌, ◌*◌, ◌-◌, ◌^◌, ◌<◌}
 use mathlib.Core.Path.{◌≡◌, refl, sym}
 use mathlib.Core.Bool.{Bool, true, false, cond}
 use mathlib.Core.List.{List, [], ◌∷◌, ◌++◌, append-nil}
 use mathlib.Core.Logic.{⊎_elim}
-use native.Mathlib.Nat.{pow-suc}
+use native.Mathlib.Nat.{pow-suc, pow-le-pow_right, lt_of_lt_of_le}
 use native.Mathlib.Numerals.{add-one}
 use native.Mathlib.Omega.{arith}
-use lib.Dec.{eqb}
-use lib.ListN.{length, get_or, take, drop, set}
+use lib.Dec.{eqb, lit<}
+use lib.ListN.{length, take, drop, set}
 use lib.Pointwise.{pointwise}
 use lib.Seq.{take-suc-set}
 use Rattle.std.specs.Prelude.{None}
-use Rattle.std.specs.List.{between}
-use Rattle.std.proofs.lemmas.Slice.{between_to_end}
 use Rattle.plan.proofs.BelowLaws.{below_or_last}
-use Rattle.plantext.specs.Bytes.{is_digit, digit_of, comma}
+use Rattle.plantext.specs.Bytes.{comma}
 use Rattle.plantext.specs.Values.{Parsed, parsed, skip, digits_from, field, before, series}
-use Rattle.plantext.proofs.RuleLaws.{NoDigit}
 
 -- a mark is skipped if a text begins with it
 pub skip_prefix : (mark text : List ℕ) → skip mark text ≡ cond (pointwise eqb (take (length mark) text) mark) (parsed [] (drop (length mark) text)) None
@@ -31,28 +28,14 @@ skip_prefix (m ∷ mark) (b ∷ text) = go (eqb b m) refl (skip_prefix mark text
     go true e later = rw e later
     go false e later = rw e refl
 
--- a text without a first byte, and one whose first byte is no digit
-pub no_digit_left : (text : List ℕ) → length text < 1 → NoDigit text
-no_digit_left [] h = tt
-no_digit_left (b ∷ text) h = absurd (omega arith)
-
-pub no_digit_first : (text : List ℕ) → is_digit (get_or text 0 0) ≡ false → NoDigit text
-no_digit_first [] e = tt
-no_digit_first (b ∷ text) e = e
-
--- one digit more is taken
-pub digit_taken : (count value : ℕ) (text : List ℕ) → count < 5 → 1 ≤ length text → is_digit (get_or text 0 0) ≡ true
-    → digits_from (5 - count) count value text ≡ digits_from (5 - (count + 1)) (count + 1) (value * 10 + digit_of (get_or text 0 0)) (between 1 (length text) text)
-unfolding digits_from
-digit_taken count value [] few some e = absurd (omega arith)
-digit_taken count value (b ∷ rest) few some e =
-    let room : 5 - count ≡ suc (5 - (count + 1)) = omega arith in
-    rw (room, e, add-one count, between_to_end (b ∷ rest) 1 (length (b ∷ rest)) (omega arith)) refl
-
 -- with five there is no room for another
 pub digits_full : (count value : ℕ) (text : List ℕ) → count ≡ 5 → digits_from (5 - count) count value text ≡ record { count = 5; value = value; rest = text }
 unfolding digits_from
 digits_full count value text e = rw e refl
+
+-- the number of fewer than five digits
+pub value_small : (value k : ℕ) → value < 10 ^ k → k < 5 → value < 10000
+value_small value k h l = lt_of_lt_of_le h (pow-le-pow_right {n = 10} (lit< tt) {i = k} {j = 4} (omega arith))
 
 -- the number of k digits and one more
 pub value_below : (value d k : ℕ) → value < 10 ^ k → d < 10 → value * 10 + d < 10 ^ (k + 1)
@@ -84,3 +67,7 @@ pub field_next : (text : List ℕ) (k : ℕ) (row rest left : List ℕ) (value :
     → parsed [] left ≡ skip (before comma k) rest → parsed (value ∷ []) end ≡ field left → series field comma (k + 1) text ≡ parsed (take (k + 1) (set row k value)) end
 field_next text k row rest left value end taken within marked one_more =
     rw (add-one k, take-suc-set row k value within, ← add-one k) (series_next field comma text k (take k row) rest taken left (value ∷ []) end marked one_more)
+
+pub before_some : (mark : List ℕ) (k : ℕ) → (k ≡ 0 → ⊥) → before mark k ≡ mark
+before_some mark zero ne = absurd (ne refl)
+before_some mark (suc k) ne = refl

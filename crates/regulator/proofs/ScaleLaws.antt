@@ -3,7 +3,7 @@ use Prim.Native.Nat.{ℕ, ◌*◌, ◌/◌, ◌%◌, ◌<◌, ◌≤◌}
 use mathlib.Core.Path.{◌≡◌, refl, ap, ◌∙◌}
 use mathlib.Core.Bool.{Bool, true, false}
 use mathlib.Core.List.{List}
-use native.Mathlib.Nat.{mul-le-mul_left, div-mul-le_self}
+use native.Mathlib.Nat.{mul-le-mul_left, mul-le-mul_right, div-mul-le_self, div-le_of_le-mul}
 use native.Mathlib.Omega.{arith}
 use lib.Dec.{eqb}
 use lib.ListN.{length, get_or}
@@ -30,6 +30,10 @@ share_part d t sum s h = go (eqb d 0) refl
     go : (b : Bool) → eqb d 0 ≡ b → share_of d t sum * s ≤ t * d
     go true e = rw e (omega arith)
     go false e = rw e (omega (arith, mul-le-mul_left (d * t / sum) h, div-mul-le_self (d * t) sum))
+
+-- no more than t, also before the demand 0 is looked at
+pub share_within : (d t sum : ℕ) → d ≤ sum → d * t / sum ≤ t
+share_within d t sum h = div-le_of_le-mul sum (mul-le-mul_right t h)
 
 -- the scaled rates
 

@@ -9,6 +9,7 @@ ghost use Rattle.regulator.specs.Boost.{column_on, boost_diagonal, diagonal_in, 
 use crate::lists::check_lists;
 use crate::sums::Sums;
 use plan::lines::flow_place;
+use plan::lists::copy;
 use plan::range::MOST_PORTS;
 use refusal::Refusal;
 
@@ -76,7 +77,7 @@ pub fn boost(n: usize, t: u32, period: u32, given: &[u16], rates: &mut [u16]) ->
     if !sums_fit(&sums.columns, n, t) {
         return Err(Refusal::ColumnAboveFrame);
     }
-    rates.copy_from_slice(given);
+    copy(given, rates);
     boost_diagonals(n, t, period, sums, rates);
     Ok(())
 }

@@ -12,8 +12,9 @@ use Rattle.planfile.specs.Read.{verdict_of, read_of}
 use Rattle.multiplexer.specs.Choose.{eligible, rounded_up, better, best_of, choose_of}
 use Rattle.multiplexer.specs.Count.{counts_after, cleared_below}
 use Rattle.meter.specs.Cover.{cover_at}
+use Rattle.meter.specs.Answer.{cover_verdict}
 use Rattle.meter.specs.Record.{record_from}
-use Rattle.meter.specs.Search.{or_better, kept_to, measured_of}
+use Rattle.meter.specs.Search.{or_better, kept_to, measured_of, cover_of}
 use Rattle.console.specs.Text.{digits_of}
 use Rattle.console.specs.TextBelow.{text_below}
 use Rattle.console.specs.Refused.{refusal_line_of}
@@ -33,7 +34,7 @@ abbrev in4 : List ℕ
 in4 = codes "0 0 3 4 3 2 3 4\n"
 
 one_output_lem : printout_of one_output ≡ header_text ++ in1 ++ in2 ++ in4
-unfolding printout_of read_of verdict_of is_marked rates_of padded_to accept_of ports_in_range frame_in_range row_sum column_sum list_below head_lines_of three_frames_of record_from choose_of best_of better eligible rounded_up counts_after cleared_below flow_lines_of counts measured_of cover_at kept_to or_better line_of text_below digits_of
+unfolding printout_of read_of verdict_of is_marked rates_of padded_to accept_of ports_in_range frame_in_range row_sum column_sum list_below head_lines_of three_frames_of record_from choose_of best_of better eligible rounded_up counts_after cleared_below flow_lines_of counts cover_of cover_verdict measured_of cover_at kept_to or_better line_of text_below digits_of
 one_output_lem = refl
 
 -- the scope's file, two of each and T = 2: T / 4 is 0, T / 2 is 1 again, and flow (1, 1) has rate 0
@@ -59,7 +60,7 @@ abbrev out1in0_2 : List ℕ
 out1in0_2 = codes "1 0 1 2 1 0 1 2\n"
 
 scope_file_lem : printout_of scope_file ≡ header_text ++ out0in0_1 ++ out0in0_2 ++ out0in1_1 ++ out0in1_2 ++ out1in0_1 ++ out1in0_2
-unfolding printout_of read_of verdict_of is_marked rates_of padded_to accept_of ports_in_range frame_in_range row_sum column_sum list_below head_lines_of three_frames_of record_from choose_of best_of better eligible rounded_up counts_after cleared_below flow_lines_of counts measured_of cover_at kept_to or_better line_of text_below digits_of
+unfolding printout_of read_of verdict_of is_marked rates_of padded_to accept_of ports_in_range frame_in_range row_sum column_sum list_below head_lines_of three_frames_of record_from choose_of best_of better eligible rounded_up counts_after cleared_below flow_lines_of counts cover_of cover_verdict measured_of cover_at kept_to or_better line_of text_below digits_of
 scope_file_lem = refl
 
 -- refused 15

@@ -9,7 +9,6 @@ use lib.ListN.{length, get_or, take}
 use borrow.Author.Tests.{lt-ltb, le-ltb}
 use Rattle.refusal.specs.declared.Refusal.{Refusal}
 use Rattle.std.specs.Prelude.{Result, Ok}
-use Rattle.std.specs.Result.{result_unwrap_or}
 use Rattle.plan.specs.Desk.{desk_of}
 use Rattle.plan.specs.Range.{most_ports, most_flows}
 use Rattle.plan.specs.declared.Plan.{Plan}
@@ -22,18 +21,18 @@ use Rattle.side.specs.Columns.{transposed}
 use Rattle.side.proofs.ColumnLaws.{desk_columns}
 use Rattle.meter.specs.Answer.{Covers}
 use Rattle.meter.specs.Cover.{most_record}
-use Rattle.meter.specs.Search.{measured_of}
+use Rattle.meter.specs.Search.{measured_of, cover_of}
 use Rattle.meter.specs.declared.Measured.{Measured}
 use Rattle.meter.proofs.AnswerLaws.{covers_accepted}
 use Rattle.smoothness.specs.Head.{board_lines_of, rates_lines_of}
 use Rattle.smoothness.specs.Input.{most_input}
-use Rattle.smoothness.specs.Printout.{line_of, stretches_of, counts, flow_lines_of, head_lines_of, printed_of, printout_of}
+use Rattle.smoothness.specs.Printout.{line_of, measured_in, stretches_of, counts, flow_lines_of, head_lines_of, printed_of, printout_of}
 use Rattle.smoothness.proofs.StretchLaws.{length_at, length_within}
 
 -- The lines of one flow: one for each length that counts.
 module _ (recorded : List ℕ) (j i a T : ℕ) where
   abbrev pub stretch_line : ℕ → List ℕ
-  stretch_line k = cond (counts (stretches_of T) k) (line_of j i a (length_at T k) T (measured_of recorded i (length_at T k))) []
+  stretch_line k = cond (counts (stretches_of T) k) (line_of j i a (length_at T k) T (measured_in (cover_of recorded i (length_at T k)))) []
 
   pub no_stretch : (k : ℕ) → counts (stretches_of T) k ≡ false → stretch_line k ≡ []
   no_stretch k e = rw e refl
@@ -43,9 +42,9 @@ module _ (recorded : List ℕ) (j i a T : ℕ) where
       → r ≡ Ok (measured_of recorded i (length_at T k))
   length_measured some long short k r = covers_accepted recorded i (length_at T k) (omega (arith, length_within T k some)) short r
 
-  pub measured_stretch : (k : ℕ) (m : Measured) → counts (stretches_of T) k ≡ true → ◌≡◌ {A = Result Measured Refusal} (Ok m) (Ok (measured_of recorded i (length_at T k)))
+  pub measured_stretch : (k : ℕ) (m : Measured) → counts (stretches_of T) k ≡ true → Ok m ≡ cover_of recorded i (length_at T k)
       → stretch_line k ≡ line_of j i a (length_at T k) T m
-  measured_stretch k m e is = rw e (ap (λ (r : Result Measured Refusal). line_of j i a (length_at T k) T (result_unwrap_or r m)) (sym is))
+  measured_stretch k m e is = rw e (ap (λ (r : Result Measured Refusal). line_of j i a (length_at T k) T (measured_in r)) (sym is))
 
 -- The lines of one head: those of each flow with a rate above 0.
 module _ (recorded rs : List ℕ) (j T i : ℕ) where

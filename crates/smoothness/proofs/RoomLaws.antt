@@ -16,14 +16,14 @@ use Rattle.planpair.specs.Rates.{plan_rates}
 use Rattle.multiplexer.specs.Window.{column_of}
 use Rattle.multiplexer.proofs.PortLaws.{column_length}
 use Rattle.meter.specs.Bound.{least_bound, most_bound}
-use Rattle.meter.specs.Search.{measured_of}
+use Rattle.meter.specs.Search.{cover_of}
 use Rattle.meter.specs.declared.Measured.{Measured}
 use Rattle.console.specs.TextBelow.{text_below}
 use Rattle.console.proofs.DigitLaws.{digits_within}
 use Rattle.console.proofs.TextLaws.{refusal_short}
 use Rattle.console.proofs.TextBelowLaws.{below_short}
 use Rattle.smoothness.specs.Head.{board_lines_of}
-use Rattle.smoothness.specs.Printout.{line_of, stretches, stretches_of, counts, flow_lines_of, three_frames_of, head_lines_of, printed_of, printout_of, line_room, printout_room}
+use Rattle.smoothness.specs.Printout.{line_of, measured_in, stretches, stretches_of, counts, flow_lines_of, three_frames_of, head_lines_of, printed_of, printout_of, line_room, printout_room}
 use Rattle.smoothness.proofs.StretchLaws.{length_at}
 use Rattle.smoothness.proofs.PrintoutLaws.{stretch_line, head_by_rates}
 
@@ -56,7 +56,7 @@ flow_short : (recorded : List ℕ) (j i a T : ℕ) → length (flow_lines_of rec
 unfolding flow_lines_of
 flow_short recorded j i a T =
     below_short (stretch_line recorded j i a T) line_room stretches
-    (λ k _. maybe_short line_room (counts (stretches_of T) k) _ (line_short j i a (length_at T k) T (measured_of recorded i (length_at T k))))
+    (λ k _. maybe_short line_room (counts (stretches_of T) k) _ (line_short j i a (length_at T k) T (measured_in (cover_of recorded i (length_at T k)))))
 
 abbrev head_room : ℕ
 head_room = most_ports * flow_room

@@ -1,14 +1,15 @@
 -- The lengths in which a flow is measured, and which of them count.
-use Prim.Native.Nat.{ℕ, zero, suc, ◌<◌, ◌≤◌}
+use Prim.Native.Nat.{ℕ, zero, suc, ◌+◌, ◌<◌, ◌≤◌}
 use mathlib.Core.Bool.{Bool, true, false, not, ◌&&◌, ◌||◌}
 use mathlib.Core.List.{List}
 use mathlib.Core.Path.{◌≡◌, refl, ap}
 use native.Mathlib.Nat.{div-le_self}
+use native.Mathlib.Numerals.{add-one}
 use native.Mathlib.Omega.{arith}
 use lib.Dec.{ltb, eqb}
 use lib.ListN.{length, get_or, take}
 use lib.Seq.{take-suc}
-use borrow.Author.Tests.{ltb-true}
+use borrow.Author.Tests.{ltb-true, ne_eqb}
 use Rattle.std.specs.List.{list_any}
 use Rattle.std.proofs.lemmas.List.Folds.{list_any-append}
 use Rattle.plan.specs.Below.{all_below}
@@ -38,6 +39,13 @@ module _ (lengths : List ℕ) (k : ℕ) where
   -- the length at place m is another one
   abbrev other : ℕ → Bool
   other m = not (eqb (get_or lengths m 0) l)
+
+  -- no length before place m is that of place k
+  abbrev pub NewTo : ℕ → Type 0
+  NewTo m = all_below other m ≡ true
+
+  pub new_next : (m : ℕ) → NewTo m → (get_or lengths m 0 ≡ l → ⊥) → NewTo (m + 1)
+  new_next m new ne = rw (add-one, new, ne_eqb (get_or lengths m 0) l ne) refl
 
   -- it is none of the first m
   abbrev among : ℕ → Bool

@@ -11,9 +11,10 @@ use Rattle.planpair.specs.Rates.{plan_rates}
 use Rattle.multiplexer.specs.Window.{column_of}
 use Rattle.multiplexer.specs.declared.Multiplexer.{Multiplexer}
 use Rattle.meter.specs.Record.{record_from}
-use Rattle.meter.specs.Search.{measured_of}
+use Rattle.meter.specs.Search.{cover_of}
 use Rattle.meter.specs.Bound.{least_bound, most_bound}
 use Rattle.meter.specs.declared.Measured.{Measured}
+use Rattle.meter.specs.declared.Stretch.{Stretch}
 use Rattle.console.specs.Text.{decimal_of, field_of}
 use Rattle.console.specs.TextBelow.{text_below}
 use Rattle.console.specs.Refused.{line_end, refusal_line_of}
@@ -27,6 +28,11 @@ line_of j i a l T measured =
     decimal_of j ++ field_of i ++ field_of a ++ field_of l
     ++ field_of measured.least.services ++ field_of (least_bound l a T)
     ++ field_of measured.most.services ++ field_of (most_bound l a T) ++ line_end
+
+-- what a measurement has; of a refused one all is 0
+abbrev pub measured_in : Result Measured Refusal → Measured
+measured_in (Ok measured) = measured
+measured_in (Err r) = let none : Stretch = record { services = 0; place = 0 } in record { least = none; most = none }
 
 -- "l = 1, T / 4, T / 2 and T"
 abbrev pub stretches : ℕ
@@ -43,7 +49,7 @@ counts lengths k = ltb 0 (get_or lengths k 0) && all_below (λ m. not (eqb (get_
 unfoldable pub flow_lines_of : List ℕ → ℕ → ℕ → ℕ → ℕ → List ℕ
 flow_lines_of recorded j i a T =
     let lengths = stretches_of T in
-    text_below (λ k. let l = get_or lengths k 0 in cond (counts lengths k) (line_of j i a l T (measured_of recorded i l)) []) stretches
+    text_below (λ k. let l = get_or lengths k 0 in cond (counts lengths k) (line_of j i a l T (measured_in (cover_of recorded i l))) []) stretches
 
 -- a port that served nobody in this frame
 abbrev pub fresh : Multiplexer

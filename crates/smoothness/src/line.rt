@@ -6,7 +6,7 @@ ghost use Rattle.smoothness.specs.Printout.{line_of, printout_room};
 
 use crate::flow::Flow;
 use crate::room::Text;
-use console::text::{field, number};
+use console::append::{field, number};
 use meter::Measured;
 
 // Which flow it is, its rate, and in how many slots it is measured.

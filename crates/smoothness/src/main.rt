@@ -2,7 +2,11 @@
 // the refusal.
 #![tactic(auto)]
 
+ghost use Rattle.std.specs.Prelude.{◌≡◌};
+ghost use Rattle.smoothness.specs.Printout.{printout_of};
+
 use crate::printout::printout;
+use crate::room::Text;
 use console::failure::fail;
 use console::program::print_of;
 use planfile::LONGEST_FILE;
@@ -17,10 +21,21 @@ mod room;
 // (proofs/PrintoutLaws.antt).
 const MOST_INPUT: usize = LONGEST_FILE + 1;
 
-// All that the programs that print have in common is `print_of`; the room and the printout are this one's.
+// All that the programs that print have in common is `print_of`; the room and the printout are this one's. What it gets of the text
+// is a view: a text of this size, handed on by value, is copied.
 fn main(rt: HostRuntime) {
     let mut room = [0u8; MOST_INPUT];
-    if let Err(failure) = print_of(&mut rt.stdin(), &mut room, &mut rt.stdout(), printout) {
+    let mut text = Text::new();
+    let lent = &mut text;
+    let text_of = move |file: &[u8]|
+        ensures { result.now ≡ printout_of file.now }
+    {
+        // taken out of the closure, which the view of it outlives
+        let out = lent;
+        printout(file, out);
+        out.as_str()
+    };
+    if let Err(failure) = print_of(&mut rt.stdin(), &mut room, &mut rt.stdout(), text_of) {
         fail(&rt, failure.what, failure.error);
     }
 }

@@ -11,7 +11,7 @@ use crate::flow::{Flow, Head};
 use crate::line::line;
 use crate::record::{RECORD_ROOM, record_frames};
 use crate::room::{STRETCHES, Text};
-use console::text::refusal_line;
+use console::append::refusal_line;
 use meter::cover;
 use plan::Plan;
 use plan::desk::desk_view;
@@ -90,17 +90,16 @@ fn heads_lines(out: &mut Text, plan: Plan)
     }
 }
 
-// What is printed of a plan file.
-pub fn printout(file: &[u8]) -> Text
-    ensures { result.bytes ≡ printout_of file.now }
+// Puts what is printed of a plan file in place of what the text has.
+pub fn printout(file: &[u8], out: &mut Text)
+    ensures { out.new.bytes ≡ printout_of file.now }
 {
-    let mut out = Text::new();
+    out.clear();
     match read(file) {
         Ok(plan) => {
             out.push_str("out in rate slots least promised most promised\n");
-            heads_lines(&mut out, plan);
+            heads_lines(out, plan);
         }
-        Err(refusal) => refusal_line(&mut out, Err(refusal)),
+        Err(refusal) => refusal_line(out, Err(refusal)),
     }
-    out
 }

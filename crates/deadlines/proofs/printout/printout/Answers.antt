@@ -7,4 +7,4 @@ use Rattle.deadlines.proofs.printout.printout.Goals as goal
 
 pub rate_lines-requires : goal.rate_lines-requires
 unfolding printout_of
-rate_lines-requires c = omega (arith, ap length c.new-out.ensures, below_room lines_at _ c.loop-b.invariant c.loop-b-test.true, printout_short)
+rate_lines-requires c = omega (arith, ap length c.clear.ensures, below_room lines_at _ c.loop-b.invariant c.loop-b-test.true, printout_short)

@@ -8,17 +8,17 @@ pub refusal_line-requires : goal.refusal_line-requires
 refusal_line-requires c =
     let text = by_refusal _ _ (sym c.read-reading.ensures ∙ c.in_default.is) in
     let told = rw c.in_default.is at c.and.ensures in
-    omega (arith, ap length c.new-out.ensures, ap length (ap refusal_line_of told), ap length text, printout_short c.args.file.now)
+    omega (arith, ap length c.clear.ensures, ap length (ap refusal_line_of told), ap length text, printout_short c.args.file.now)
 
 pub returns-in_default : goal.returns-in_default
 returns-in_default c =
     let told = rw c.in_default.is at c.and.ensures in
-    rw (by_refusal _ _ (sym c.read-reading.ensures ∙ c.in_default.is), c.refusal_line.ensures, told, c.new-out.ensures) refl
+    rw (by_refusal _ _ (sym c.read-reading.ensures ∙ c.in_default.is), c.refusal_line.ensures, told, c.clear.ensures) refl
 
 pub frame_printout-requires : goal.frame_printout-requires
 frame_printout-requires c =
     let read = sym c.read-reading.ensures ∙ c.in-Ok.is in
-    (few_ports _ _ read, omega (arith, ap length c.new-out.ensures, ap length (by_plan _ _ read), printout_short c.args.file.now))
+    (few_ports _ _ read, omega (arith, ap length c.clear.ensures, ap length (by_plan _ _ read), printout_short c.args.file.now))
 
 pub returns : goal.returns
-returns c = rw (by_plan _ _ (sym c.read-reading.ensures ∙ c.in-Ok.is), c.frame_printout.ensures, c.new-out.ensures) refl
+returns c = rw (by_plan _ _ (sym c.read-reading.ensures ∙ c.in-Ok.is), c.frame_printout.ensures, c.clear.ensures) refl

@@ -36,10 +36,10 @@ returns-then-not-sums_fit-2 c =
 pub boost_diagonals-requires : goal.boost_diagonals-requires
 boost_diagonals-requires c =
     let pass = both_fit (by_sums (goal.at.boost_diagonals-requires c).After-of-sums) (passed c.sums_fit.ensures c.if-not-sums_fit.false) (passed c.sums_fit-2.ensures c.if-not-sums_fit-2.false) in
-    rw c.copy_from_slice.ensures.after (accepted _ _ _ (boost_taken _ _ _ _ pass).0, c.of-sums.ensures)
+    rw c.copy.ensures (accepted _ _ _ (boost_taken _ _ _ _ pass).0, c.of-sums.ensures)
 
 pub returns : goal.returns
 unfolding boost_of
 returns c =
     let pass = both_fit (by_sums (goal.at.returns c).After-of-sums) (passed c.sums_fit.ensures c.if-not-sums_fit.false) (passed c.sums_fit-2.ensures c.if-not-sums_fit-2.false) in
-    rw (c.boost_diagonals.ensures, c.copy_from_slice.ensures.after) (done_outcome _ _ _ pass)
+    rw (c.boost_diagonals.ensures, c.copy.ensures) (done_outcome _ _ _ pass)

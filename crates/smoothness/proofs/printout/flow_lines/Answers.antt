@@ -1,5 +1,6 @@
 use Rattle.std.proofs.Common.{◌≡◌, ◌∙◌, true, sym, ap, arith, length, refl, Ok}
 use Rattle.meter.specs.Search.{measured_of}
+use Rattle.meter.proofs.AnswerLaws.{cover_only}
 use Rattle.console.proofs.TextBelowLaws.{below_room, below_skip, below_step}
 use Rattle.smoothness.specs.Printout.{line_of, stretches_of, counts, flow_lines_of}
 use Rattle.smoothness.proofs.PrintoutLaws.{stretch_line, no_stretch, length_measured, measured_stretch}
@@ -23,7 +24,7 @@ counted : (c : After-unwrap-measured) →
     × (stretch_line c.args.recorded.now f.head.number f.board f.rate f.head.frame k ≡ line_of f.head.number f.board f.rate (length_at f.head.frame k) f.head.frame c.unwrap-measured.result)
 counted c =
     let f = c.args.flow in
-    let told = length_measured c.args.recorded.now f.head.number f.board f.rate f.head.frame f.head.some_slot c.requires.2 c.requires.3 c.loop-k.k _ c.cover.ensures in
+    let told = cover_only c.args.recorded.now f.board (length_at f.head.frame c.loop-k.k) _ c.cover.ensures in
     let yes = sym c.counts.ensures ∙ c.if-not-counts.false in
     (yes, measured_stretch _ _ _ _ _ _ _ yes (sym c.unwrap-measured.ensures ∙ told))
 

@@ -9,10 +9,10 @@ use Rattle.smoothness.proofs.printout.printout.Goals as goal
 pub refusal_line-requires : goal.refusal_line-requires
 refusal_line-requires c =
     let text = printed_by _ _ (sym c.in-Err.is ∙ c.read.ensures) in
-    omega (arith, ap length c.new-out.ensures, ap length text, printout_short c.args.file.now)
+    omega (arith, ap length c.clear.ensures, ap length text, printout_short c.args.file.now)
 
 pub returns-in-Err : goal.returns-in-Err
-returns-in-Err c = rw (printed_by _ _ (sym c.in-Err.is ∙ c.read.ensures), c.refusal_line.ensures, c.new-out.ensures) refl
+returns-in-Err c = rw (printed_by _ _ (sym c.in-Err.is ∙ c.read.ensures), c.refusal_line.ensures, c.clear.ensures) refl
 
 pub heads_lines-requires : goal.heads_lines-requires
 heads_lines-requires c =
@@ -21,9 +21,9 @@ heads_lines-requires c =
       plan.few_ports,
       plan.some_slot,
       plan.few_slots,
-      omega (arith, ap length c.new-out.ensures, c.push_str.ensures.len, put_sizes header_text _ (printed_by _ _ told), printout_short c.args.file.now),
+      omega (arith, ap length c.clear.ensures, c.push_str.ensures.len, put_sizes header_text _ (printed_by _ _ told), printout_short c.args.file.now),
     )
 
 pub returns-in-Ok : goal.returns-in-Ok
 returns-in-Ok c =
-    rw (printed_by _ _ (sym c.in-Ok.is ∙ c.read.ensures), c.heads_lines.ensures, c.push_str.ensures.bytes, c.new-out.ensures) refl
+    rw (printed_by _ _ (sym c.in-Ok.is ∙ c.read.ensures), c.heads_lines.ensures, c.push_str.ensures.bytes, c.clear.ensures) refl
