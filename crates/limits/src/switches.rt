@@ -70,14 +70,15 @@ pub fn arrivals(rt: &impl Print, store: &mut [u32]) {
     arrival(rt, q, q + 1, over.verdict);
 }
 
+// The verdict on a step of a switch of one port.
+fn stepped(state: Switch) -> Result<(), Refusal> {
+    state.step(&[7; 1]).verdict
+}
+
 pub fn slot(rt: &impl Print, s: u32) {
     let mut state = one_port(1, &[7; 1]).state;
     state.slot = s;
-    report(
-        rt,
-        format_args!("T = 6, slot {s}"),
-        state.step(&[7; 1]).verdict,
-    );
+    report(rt, format_args!("T = 6, slot {s}"), stepped(state));
 }
 
 // A step that moves a cell to a crosspoint which holds some.
@@ -91,6 +92,6 @@ pub fn crosspoint(rt: &impl Print, count: u8) {
     report(
         rt,
         format_args!("queue at 1, crosspoint at {count}"),
-        state.step(&[7; 1]).verdict,
+        stepped(state),
     );
 }
