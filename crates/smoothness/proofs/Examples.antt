@@ -67,3 +67,8 @@ scope_file_lem = refl
 empty_file : printout_of [] ≡ codes "refused 15\n"
 unfolding printout_of read_of verdict_of refusal_line_of digits_of
 empty_file = refl
+
+-- a record of no slots is refused in each length, and its measurements are 0
+no_record : flow_lines_of [] 0 0 1 4 ≡ codes "0 0 1 1 0 0 0 1\n" ++ codes "0 0 1 2 0 0 0 2\n" ++ codes "0 0 1 4 0 0 0 2\n"
+unfolding flow_lines_of counts cover_of cover_verdict line_of rounded_up text_below digits_of
+no_record = refl
